@@ -1,0 +1,5 @@
+use Rattle.monoid.proofs.Ints.{same-int}
+use Rattle.monoid.proofs.int.Int.lowest.Needs as need
+
+pub returns : need.returns
+returns c = same-int _ _ (c .new .ensures)
