@@ -6,11 +6,11 @@ use Prim.Native.Nat.{ℕ, zero, suc, _+_, _-_, _≤_, _<_}
 use native.Mathlib.Omega.{arith}
 use lib.ListN.{length, take, drop, getD, set, take-append-drop, length-append, length-take, length-drop}
 use Rattle.std.specs.shelf.Lists.{sum}
-use Rattle.std.proofs.shelf.Lists.{take-more, drop-more, drop-drop, map-append, set-append-right, length-take-le, take-all, getD-drop, getD-at, length-map}
+use Rattle.std.proofs.shelf.Lists.{take-more, drop-more, drop-drop, map-append, set-append-right, length-take-le, take-all, take-at, drop-at, getD-drop, getD-at, length-map}
 use Rattle.std.proofs.shelf.Sums.{sumBy-cons, sumBy-more, sumBy-take-le, sumBy-take-drop, sumBy-drop-more}
 use Rattle.monoid.specs.Laws.{Laws, product}
 use Rattle.monoid.specs.Lifted.{lifted}
-use Rattle.monoid.specs.Segments.{marked, plain, places, cut, reduced}
+use Rattle.monoid.specs.Segments.{marked, plain, places, cut, concat}
 use Rattle.monoid.proofs.Lifts.{length-marked, product-inside}
 
 module _ {M : Type 0} where
@@ -123,3 +123,13 @@ module _ {M : Type 0} where
       ap (λ xss. getD (map f xss) j x) (cut-split v d j h)
       ∙ ap (λ ys. getD ys j x) (map-append f front (take n rest ∷ cut (drop n rest) (drop (j + 1) d)))
       ∙ getD-at (map f front) (f (take n rest)) (map f (cut (drop n rest) (drop (j + 1) d))) x j long
+
+  -- lists side by side, cut by their lengths, are the lists again
+  pub cut-concat : (xss : List (List M)) → cut (concat xss) (map length xss) ≡ xss
+  cut-concat [] = refl
+  cut-concat (xs ∷ xss) =
+      ap₂ (λ (a : List M) (b : List (List M)). a ∷ b) (take-at xs (concat xss) (length xs) refl) (ap (λ v. cut v (map length xss)) (drop-at xs (concat xss) (length xs) refl) ∙ cut-concat xss)
+
+  pub sum-lengths : (xss : List (List M)) → sum (map length xss) ≡ length (concat xss)
+  sum-lengths [] = refl
+  sum-lengths (xs ∷ xss) = sumBy-cons (λ x. x) (length xs) (map length xss) ∙ ap (λ n. length xs + n) (sum-lengths xss) ∙ sym (length-append xs (concat xss))

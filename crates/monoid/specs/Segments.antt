@@ -21,6 +21,11 @@ abbrev pub places : {M : Type 0} → List (List M) → List (Bool × M)
 places [] = []
 places (xs ∷ xss) = marked xs ++ places xss
 
+-- lists side by side
+abbrev pub concat : {M : Type 0} → List (List M) → List M
+concat [] = []
+concat (xs ∷ xss) = xs ++ concat xss
+
 -- v cut into lists of the lengths d
 abbrev pub cut : {M : Type 0} → List M → List ℕ → List (List M)
 cut v [] = []

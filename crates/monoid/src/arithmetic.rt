@@ -44,7 +44,11 @@ impl Int {
     pub fn max(self, other: Int) -> Int
         ensures { λ r. ⌜ r ≡ larger self other ⌝ }
     {
-        if self.value < other.value { other } else { self }
+        if self.value < other.value {
+            other
+        } else {
+            self
+        }
     }
 
     pub fn is_zero(self) -> bool

@@ -13,6 +13,9 @@ pub struct Int {
 impl Int {
     pub const LOWEST: i32 = i32::MIN;
 
+    // The magnitude of the lowest int; that of the highest is 1 less.
+    pub const MAGNITUDE: u64 = 2147483648;
+
     pub fn new(value: i32) -> Int
         ensures { λ r. ⌜ r .value ≡ value ⌝ }
     {

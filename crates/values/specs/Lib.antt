@@ -1,0 +1,5 @@
+pub mod Lists
+pub mod Magnitudes
+pub mod Reading
+pub mod Rows
+pub mod Texts

@@ -1,0 +1,4 @@
+// Values as texts: read and printed.
+pub mod fault;
+pub mod int_text;
+pub mod rows;
