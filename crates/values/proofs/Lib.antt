@@ -1,7 +1,9 @@
 pub mod Decimals
+pub mod Digits
 pub mod Fronts
 pub mod IntTexts
 pub mod Lists
 pub mod Magnitudes
+pub mod Printing
 pub mod Rowing
 pub mod Separate

@@ -1,5 +1,6 @@
 pub mod Lists
 pub mod Magnitudes
+pub mod Printing
 pub mod Reading
 pub mod Rows
 pub mod Texts

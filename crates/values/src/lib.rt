@@ -1,4 +1,5 @@
 // Values as texts: read and printed.
 pub mod fault;
 pub mod int_text;
+pub mod print;
 pub mod rows;
