@@ -1,7 +1,7 @@
 -- The arithmetic of ints keeps its laws.
-use mathlib.Core.Path.{_≡_, refl, ap, sym, _∙_, subst}
+use mathlib.Core.Path.{_≡_, refl, ap, ap₂, sym, _∙_, subst}
 use mathlib.Core.Bool.{Bool, true, false, cond}
-use mathlib.Core.List.{List, [], _∷_}
+use mathlib.Core.List.{List, [], _∷_, map}
 use Prim.Native.Nat.{ℕ, _-_, _<_, _^_}
 use native.Mathlib.Omega.{arith}
 use native.Mathlib.Bridge.{le-prop}
@@ -134,3 +134,7 @@ bit-or-laws = record {
       (ap (λ n. bitOr n (ofZ width (z .value))) (or-bits x y) ∙ or-assoc (ofZ width (x .value)) (ofZ width (y .value)) (ofZ width (z .value))
       ∙ sym (ap (bitOr (ofZ width (x .value))) (or-bits y z)));
 }
+
+pub sums-once : (xss : List (List Int)) → map (product int-zero int-sum) xss ≡ map wrapped-sum xss
+sums-once [] = refl
+sums-once (xs ∷ xss) = ap₂ (λ (y : Int) (ys : List Int). y ∷ ys) (sum-once xs) (sums-once xss)
