@@ -1,8 +1,10 @@
 // Scans and reductions of segments side by side, all by one scan of the segmented lift.
 // `v` has the elements of all segments, `lengths` their lengths; `places` is lent for the lifted elements.
 ghost use mathlib.Core.Path.{_≡_};
+ghost use mathlib.Core.Bool.{cond};
 ghost use mathlib.Core.List.{map};
 ghost use Prim.Native.Nat.{ℕ, _+_, _%_, _^_};
+ghost use lib.Dec.{eqb};
 ghost use lib.ListN.{length, getD};
 ghost use Rattle.std.specs.shelf.Lists.{sum};
 ghost use Rattle.scan.specs.Ends.{Ends};
@@ -45,7 +47,23 @@ fn before<M: Monoid>(
     }
 }
 
-// Reads the product of each segment where the next one begins. An empty segment gets the identity.
+// The product of a segment of n elements, read where the next one begins. An empty segment has the identity.
+fn product_of<M: Monoid>(
+    places: &[(bool, M::Element)],
+    all: (bool, M::Element),
+    end: usize,
+    n: usize,
+) -> M::Element
+    ensures { λ r. ⌜ r ≡ cond (eqb n 0) (M·Monoid .unit) (getD (now (places .entry)) end all .1) ⌝ }
+{
+    if n == 0 {
+        M::identity()
+    } else {
+        before::<M>(places, all, end)
+    }
+}
+
+// Reads the product of each segment off a scan of the lift whose product of all is `all`.
 fn ends<M: Monoid>(
     lengths: &[usize],
     places: &[(bool, M::Element)],
@@ -59,11 +77,7 @@ fn ends<M: Monoid>(
     for j in 0..lengths.len() {
         let n = lengths[j];
         at += n;
-        if n == 0 {
-            out[j] = M::identity();
-        } else {
-            out[j] = before::<M>(places, all, at);
-        }
+        out[j] = product_of::<M>(places, all, at, n);
     }
 }
 

@@ -103,6 +103,11 @@ pub fn totals<E: ScanEngine>(
 {
     let rows = read_rows(heap, text)?;
     let mut work = Workspace::new(heap, rows.ints.len(), rows.lengths.len())?;
-    let report = work.score(engine, rows.ints.as_slice(), rows.lengths.as_slice(), output)?;
+    let report = work.score(
+        engine,
+        rows.ints.as_slice(),
+        rows.lengths.as_slice(),
+        output,
+    )?;
     Ok(report)
 }

@@ -9,13 +9,14 @@ use lib.Dec.{lit<}
 use lib.IntN.{ℤ, pos, negsuc}
 use lib.ListN.{length, take, drop, getD, length-append, length-take}
 use lib.Signed.{mag}
+use mir.Val.{hbits}
 use Rattle.std.specs.Text.{In}
 use Rattle.std.specs.Written.{decimal, signed}
 use Rattle.std.proofs.shelf.Decimals.{decimal-some, decimal-digit, first-decimal, same-from-signed}
 use Rattle.std.proofs.shelf.Lists.{take-at, take-rest, drop-more, getD-take, getD-append-left, length-take-le}
 use Rattle.std.proofs.shelf.Tests.{cases-lt}
 use Rattle.monoid.specs.declared.int.Int.{Int}
-use Rattle.monoid.specs.Ints.{int-zero}
+use Rattle.monoid.specs.Ints.{width, int-zero}
 use Rattle.values.specs.Magnitudes.{ReadsMagnitude}
 use Rattle.values.specs.Reading.{Begins, Longest, ReadsFront, StopsAt}
 use Rattle.values.specs.Texts.{intText}
@@ -36,9 +37,9 @@ no-minus : (n : ℕ) (r : List ℕ) → n < 2 ^ 64 → decimal n ≡ 45 ∷ r �
 no-minus n r h e = let d = digit-in n 45 [] r h e in omega (arith, d .0)
 
 -- ---- no minus sign
-module _ (s : List ℕ) (plain : getD s 0 0 ≡ 45 → ⊥) (value n : ℕ) (reads : ReadsMagnitude 2147483647 s value n) where
-  plain-beyond : (z : ℤ) → mag z < 2 ^ 31 → (k : ℕ) (r : List ℕ) → n < k → k ≤ length s → signed z ≡ take k s ++ r → ⊥
-  plain-beyond (pos j) small k r past within e = longer 2147483647 s value n j k r (omega arith) reads (omega arith) past within e
+module _ (s : List ℕ) (plain : getD s 0 0 ≡ 45 → ⊥) (value n : ℕ) (reads : ReadsMagnitude (2 ^ hbits width - 1) s value n) where
+  plain-beyond : (z : ℤ) → mag z < 2 ^ hbits width → (k : ℕ) (r : List ℕ) → n < k → k ≤ length s → signed z ≡ take k s ++ r → ⊥
+  plain-beyond (pos j) small k r past within e = longer (2 ^ hbits width - 1) s value n j k r (omega arith) reads (omega arith) past within e
   plain-beyond (negsuc j) small k r past within e = first s k plain (omega arith) within e
     where
       first : (s : List ℕ) (k : ℕ) → (getD s 0 0 ≡ 45 → ⊥) → 0 < k → k ≤ length s → 45 ∷ decimal (suc j) ≡ take k s ++ r → ⊥
@@ -58,15 +59,15 @@ module _ (s : List ℕ) (plain : getD s 0 0 ≡ 45 → ⊥) (value n : ℕ) (rea
     longest = record { within = omega arith; begins = record { value = int-zero; rest = decimal 0; is = refl }; beyond = λ k past. plain-past k (omega arith) };
   }
     where
-      some : (y : ℤ) → mag y < 2 ^ 31 → n < length (signed y)
+      some : (y : ℤ) → mag y < 2 ^ hbits width → n < length (signed y)
       some (pos j) small = omega (arith, decimal-some j (omega arith))
       some (negsuc j) small = omega arith
 
 -- ---- after a minus sign
-module _ (t : List ℕ) (value n : ℕ) (reads : ReadsMagnitude 2147483648 t value n) where
-  minus-beyond : (z : ℤ) → mag z < 2 ^ 31 → (k : ℕ) (r : List ℕ) → n < k → k ≤ length t → signed z ≡ 45 ∷ (take k t ++ r) → ⊥
+module _ (t : List ℕ) (value n : ℕ) (reads : ReadsMagnitude (2 ^ hbits width) t value n) where
+  minus-beyond : (z : ℤ) → mag z < 2 ^ hbits width → (k : ℕ) (r : List ℕ) → n < k → k ≤ length t → signed z ≡ 45 ∷ (take k t ++ r) → ⊥
   minus-beyond (pos j) small k r past within e = no-minus j (take k t ++ r) (omega arith) e
-  minus-beyond (negsuc j) small k r past within e = longer 2147483648 t value n (suc j) k r (omega arith) reads (omega arith) past within (same-tail e)
+  minus-beyond (negsuc j) small k r past within e = longer (2 ^ hbits width) t value n (suc j) k r (omega arith) reads (omega arith) past within (same-tail e)
 
   minus-past : (k : ℕ) → n + 1 < k → k ≤ length (45 ∷ t) → Begins intText (take k (45 ∷ t)) → ⊥
   minus-past zero past within b = absurd (omega arith)
@@ -95,7 +96,7 @@ module _ (t : List ℕ) (value n : ℕ) (reads : ReadsMagnitude 2147483648 t val
       (λ (l : n ≤ 0). minus-past k (omega arith) within b)
       (cases-lt 0 n)
     where
-      behind : 0 < n → (k : ℕ) → 1 < k → (y : ℤ) → mag y < 2 ^ 31 → signed y ≡ take k (45 ∷ t) ++ b .rest → ⊥
+      behind : 0 < n → (k : ℕ) → 1 < k → (y : ℤ) → mag y < 2 ^ hbits width → signed y ≡ take k (45 ∷ t) ++ b .rest → ⊥
       behind some zero past y small e = absurd (omega arith)
       behind some (suc k) past (pos j) small e = no-minus j (take k t ++ b .rest) (omega arith) e
       behind some (suc k) past (negsuc j) small e = zero-behind z some j (omega arith) k (b .rest) (omega arith) (same-tail e)
@@ -109,7 +110,7 @@ module _ (t : List ℕ) (value n : ℕ) (reads : ReadsMagnitude 2147483648 t val
       int-minus : Int
       int-minus = record { value = negsuc 0; ok = lit< tt }
 
-      none : (y : ℤ) → mag y < 2 ^ 31 → (x : Int) (k : ℕ) → x .value ≡ y → take k (45 ∷ t) ≡ intText x → ⊥
+      none : (y : ℤ) → mag y < 2 ^ hbits width → (x : Int) (k : ℕ) → x .value ≡ y → take k (45 ∷ t) ≡ intText x → ⊥
       none (pos j) small x zero is e = absurd (omega (arith, decimal-some j (omega arith), ap length (e ∙ ap signed is)))
       none (pos j) small x (suc k) is e = no-minus j (take k t) (omega arith) (sym (e ∙ ap signed is))
       none (negsuc j) small x k is e =
@@ -126,8 +127,8 @@ module _ (s : List ℕ) (minus : getD s 0 0 ≡ 45) where
   cut-sign : s ≡ 45 ∷ drop 1 s
   cut-sign = drop-more s 0 0 (some-byte s minus) ∙ ap (λ b. b ∷ drop 1 s) minus
 
-  module _ (value n : ℕ) (reads : ReadsMagnitude 2147483648 (take (length s - 1) (drop 1 s)) value n) where
-    behind : ReadsMagnitude 2147483648 (drop 1 s) value n
+  module _ (value n : ℕ) (reads : ReadsMagnitude (2 ^ hbits width) (take (length s - 1) (drop 1 s)) value n) where
+    behind : ReadsMagnitude (2 ^ hbits width) (drop 1 s) value n
     behind = rw (take-rest s 1) at reads
 
     pub negative-reads : (x : Int) → (value ≡ 0 → ⊥) → x .value ≡ negsuc (value - 1) → ReadsFront intText s x (n + 1)
@@ -137,15 +138,15 @@ module _ (s : List ℕ) (minus : getD s 0 0 ≡ 45) where
     negative-stops z = subst (λ t. StopsAt intText t 1) (sym cut-sign) (minus-stops (drop 1 s) value n behind z)
 
 -- ---- texts of ints one behind the other
-text-some : (z : ℤ) → mag z < 2 ^ 31 → signed z ≡ [] → ⊥
+text-some : (z : ℤ) → mag z < 2 ^ hbits width → signed z ≡ [] → ⊥
 text-some (pos j) small e = omega (arith, decimal-some j (omega arith), ap length e)
 text-some (negsuc j) small e = omega (arith, ap length e)
 
-text-opens : (z : ℤ) (r : List ℕ) → mag z < 2 ^ 31 → signed z ≡ 93 ∷ r → ⊥
+text-opens : (z : ℤ) (r : List ℕ) → mag z < 2 ^ hbits width → signed z ≡ 93 ∷ r → ⊥
 text-opens (pos j) r small e = let d = digit-in j 93 [] r (omega arith) e in omega (arith, d .1)
 text-opens (negsuc j) r small e = let z : _≡_ {A = ℕ} 45 93 = same-head e in omega (arith, z)
 
-text-goes-on : (y z : ℤ) (c : ℕ) (r : List ℕ) → mag y < 2 ^ 31 → mag z < 2 ^ 31 → signed y ≡ signed z ++ c ∷ r → In 48 57 c
+text-goes-on : (y z : ℤ) (c : ℕ) (r : List ℕ) → mag y < 2 ^ hbits width → mag z < 2 ^ hbits width → signed y ≡ signed z ++ c ∷ r → In 48 57 c
 text-goes-on (pos i) (pos j) c r p q e = digit-in i c (decimal j) r (omega arith) e
 text-goes-on (pos i) (negsuc j) c r p q e = absurd (no-minus i (decimal (suc j) ++ c ∷ r) (omega arith) e)
 text-goes-on (negsuc i) (pos j) c r p q e = absurd (by (decimal j) refl e)

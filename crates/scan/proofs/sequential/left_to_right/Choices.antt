@@ -2,7 +2,7 @@ use mathlib.Core.Path.{_≡_}
 use Prim.Native.Nat.{ℕ, _≤_, _<_, _%_, _^_}
 use lib.ListN.{length, take, getD}
 use Rattle.monoid.specs.Laws.{product}
-use Rattle.scan.proofs.sequential.SequentialScan.scan.Given as given
+use Rattle.scan.proofs.sequential.left_to_right.Given as given
 
 abbrev pub Inv-loop-x : given.InvT-loop-x
 Inv-loop-x g l =

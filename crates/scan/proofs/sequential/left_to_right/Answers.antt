@@ -9,7 +9,7 @@ use borrow.Author.Count.{below-more}
 use borrow.Author.Needs.{needs}
 use Rattle.monoid.specs.Laws.{product}
 use Rattle.monoid.proofs.Products.{product-more}
-use Rattle.scan.proofs.sequential.SequentialScan.scan.Needs as need
+use Rattle.scan.proofs.sequential.left_to_right.Needs as need
 
 pub loop-x-again : need.loop-x-again
 loop-x-again g c =
@@ -39,5 +39,4 @@ returns g c =
       places = record { long = c .loop-x .kept .xs; each = λ i h. inv .2 i (omega arith) };
       total = inv .1 ∙ ap (product (m .unit) (m .op)) (take-all _ _ all);
       made = made;
-      rises = ap (λ n. (c .args .self .now .kept + n) % 2 ^ 64) made ∙ add-mod-mod (c .args .self .now .kept) (length xs) (2 ^ 64);
     }
