@@ -1,4 +1,5 @@
 // The command line.
+use reader::table::Table;
 use scan::sequential::Sequential;
 use scan::sequential::SequentialScan;
 use std::env;
@@ -6,24 +7,40 @@ use std::error::AnyError;
 use std::io::Read;
 use std::io::Write;
 use totals::report::Report;
-use totals::report::TotalsFault;
 use totals::totals;
 
 mod show;
 
 const USAGE: &str = "usage:
+  tislavum check     reads a program from standard input, and says whether it is one
   tislavum totals    reads a list of rows of ints from standard input, as [[1,2],[],[3]],
                      and prints the total of each row, as [3,0,3]
   tislavum --help    prints this text";
 
-// Standard input to its end; the line break that ends it is no part of the value.
 fn read_input(rt: &LibcRuntime) -> Result<Vec<u8>, AnyError> {
     let mut text = Vec::new(rt.alloc());
     rt.stdin().read_to_end(&mut text)?;
-    if let Some(b'\n') = text.last().copied() {
-        let _ = text.pop();
-    }
     Ok(text)
+}
+
+fn show_refusal(rt: &LibcRuntime, text: &[u8], number: u8, place: usize) -> Result<(), AnyError> {
+    let meaning = show::meaning(number);
+    eprintln!(rt, "refused: {number} at {place}: {meaning}")?;
+    eprintln!(rt, "{}", show::caret(rt.alloc(), text, place)?)?;
+    Err("refused".into())
+}
+
+fn check(rt: &LibcRuntime) -> Result<(), AnyError> {
+    let text = read_input(rt)?;
+    let mut table = Table::new(rt.alloc())?;
+    match table.read(text.as_slice()) {
+        Ok(()) => {
+            let count = table.occurrences().len();
+            println!(rt, "reads: {count} occurrences")?;
+            Ok(())
+        }
+        Err(fault) => show_refusal(rt, text.as_slice(), fault.number(), fault.place()),
+    }
 }
 
 fn show_report(rt: &LibcRuntime, output: &[u8], report: Report) -> Result<(), AnyError> {
@@ -39,29 +56,23 @@ fn show_report(rt: &LibcRuntime, output: &[u8], report: Report) -> Result<(), An
     Ok(())
 }
 
-fn show_fault(rt: &LibcRuntime, text: &[u8], fault: TotalsFault) -> Result<(), AnyError> {
-    let Some(refusal) = fault.refusal() else {
-        eprintln!(rt, "out of memory")?;
-        return Err("out of memory".into());
-    };
-    let number = refusal.number;
-    let place = refusal.place;
-    let meaning = show::meaning(number);
-    eprintln!(rt, "refused: {number} at {place}: {meaning}")?;
-    eprintln!(rt, "{}", show::caret(rt.alloc(), text, place)?)?;
-    Err("refused".into())
-}
-
-// The text of the totals is never longer than twelve bytes a row and two brackets, and a row takes two bytes at least.
+// The line break that ends the input is no part of the value. The text of the totals is never longer than twelve bytes a row
+// and two brackets, and a row takes two bytes at least.
 fn run_totals(rt: &LibcRuntime) -> Result<(), AnyError> {
     let heap = rt.alloc();
-    let text = read_input(rt)?;
+    let mut text = read_input(rt)?;
+    if let Some(b'\n') = text.last().copied() {
+        let _ = text.pop();
+    }
     let room = text.len().saturating_mul(6).saturating_add(12);
     let mut output = vec![in heap; 0u8; room]?;
     let mut engine = Sequential::new();
     match totals(&mut engine, heap, text.as_slice(), output.as_mut_slice()) {
         Ok(report) => show_report(rt, output.as_slice(), report),
-        Err(fault) => show_fault(rt, text.as_slice(), fault),
+        Err(fault) => match fault.refusal() {
+            Some(refusal) => show_refusal(rt, text.as_slice(), refusal.number, refusal.place),
+            None => Err("out of memory".into()),
+        },
     }
 }
 
@@ -73,6 +84,7 @@ fn main(rt: LibcRuntime) -> Result<(), AnyError> {
         return Err("no command".into());
     };
     match command.as_str() {
+        "check" => check(&rt),
         "totals" => run_totals(&rt),
         "--help" => {
             println!(rt, "{USAGE}")?;

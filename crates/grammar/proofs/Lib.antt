@@ -1,0 +1,10 @@
+pub mod Wanting
+pub mod Signs
+pub mod Follow
+pub mod Going
+pub mod Starting
+pub mod Opening
+pub mod Codes
+pub mod Shapes
+pub mod Growing
+pub mod Alone
