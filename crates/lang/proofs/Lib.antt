@@ -1,0 +1,11 @@
+pub mod Names
+pub mod Rules
+pub mod Sound
+pub mod Complete
+pub mod Small
+pub mod Examples
+pub mod Judging
+pub mod Programs
+pub mod Derived
+pub mod Accepting
+pub mod Limits

@@ -1,0 +1,5 @@
+use Rattle.lang.proofs.programs_agree.Needs as need
+use Rattle.lang.proofs.Programs.{judged}
+
+pub returns : need.returns
+returns c = judged

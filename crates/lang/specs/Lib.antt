@@ -1,0 +1,17 @@
+pub mod Values
+pub mod Expr
+pub mod Weight
+pub mod Scope
+pub mod Rules
+pub mod Outcome
+pub mod Written
+pub mod Elaborate
+pub mod Check
+pub mod Typing
+pub mod Laws
+pub mod Examples
+pub mod Phrases
+pub mod Judging
+pub mod Agreement
+pub mod Accepting
+pub mod Limits

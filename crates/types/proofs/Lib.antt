@@ -1,0 +1,4 @@
+pub mod Typed
+pub mod Sound
+pub mod Held
+pub mod Same

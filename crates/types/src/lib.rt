@@ -1,0 +1,3 @@
+// The types of the language, each held once and named by its code.
+pub mod node;
+pub mod table;
