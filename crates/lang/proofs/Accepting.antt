@@ -1,31 +1,26 @@
--- A program is accepted where the rules say so; a refusal is that of the first occurrence that refuses.
+-- A program is accepted where the rules say so.
 use mathlib.Core.Path.{_≡_, ap, sym, _∙_}
 use mathlib.Core.Path as P
 use mathlib.Core.Bool.{Bool, true, false, cond}
-use mathlib.Core.List.{List, [], _∷_, _++_}
+use mathlib.Core.List.{[], _∷_}
 use mathlib.Core.Option.{Option, none, some}
 use Prim.Native.Nat.{ℕ, _≤_}
-use native.Mathlib.Omega.{arith}
 use lib.Dec.{leb}
 use Rattle.std.proofs.shelf.Tests.{leb-true, le-leb}
 use Rattle.tokens.specs.declared.kind.Name.{Name}
-use Rattle.tokens.specs.Faults.{Refusal}
 use Rattle.types.specs.Types.{Ty, parts, same}
-use Rattle.grammar.specs.declared.occurrence.Occurrence.{Occurrence}
 use Rattle.grammar.specs.Tree.{Tree}
 use Rattle.lang.specs.Expr.{Expr}
 use Rattle.lang.specs.Weight.{weight}
 use Rattle.lang.specs.Scope.{bound}
-use Rattle.lang.specs.Outcome.{Out, ok, refused, then, refuse}
+use Rattle.lang.specs.Outcome.{Out, ok, refused, refuse}
 use Rattle.lang.specs.Written.{Writes, Written, written}
-use Rattle.lang.specs.Elaborate.{Typed, elaborate}
+use Rattle.lang.specs.Elaborate.{elaborate}
 use Rattle.lang.specs.Check.{Checked, header, at-result, declared, weighed, check}
-use Rattle.lang.specs.Judging.{State, step, judge}
-use Rattle.lang.specs.Accepting.{Accepts, Check-law, First, First-law}
+use Rattle.lang.specs.Accepting.{Accepts, Check-law}
 use Rattle.lang.proofs.Rules.{same-self}
 use Rattle.lang.proofs.Sound.{Holds, after, Written-right, written-right}
 use Rattle.lang.proofs.Complete.{written-writes, typing}
-use Rattle.lang.proofs.Judging.{judge-append}
 
 abbrev Header : Tree → Ty → Type 0
 Header e t = ((p : ℕ) × Writes e p t) × (parts t ≤ 8)
@@ -73,24 +68,3 @@ check-gives x r n a b e c h =
 
 pub checking : Check-law
 checking x r n a b e c = (λ h. rw h at (check-is x r n a b e), check-gives x r n a b e c)
-
--- the first that refuses
-first-to : (st : State) (os : List Occurrence) (r : Refusal) → judge st os ≡ refused r → First st os r
-unfolding judge
-first-to st [] r h = let z : _≡_ {A = ℕ} 0 1 = cc in absurd (omega arith)
-first-to st (o ∷ os) r h = by (step o st) P.refl h (λ mid. first-to mid os r)
-  where
-    by : (m : Out State) → step o st ≡ m → then m (λ st. judge st os) ≡ refused r → ((mid : State) → judge mid os ≡ refused r → First mid os r) → First st (o ∷ os) r
-    by (ok mid) e k ih =
-        let f = ih mid k in
-        record { before = o ∷ f .before; at = f .at; after = f .after; reached = f .reached; split = ap (λ (l : List Occurrence). o ∷ l) (f .split); passed = ap (λ m. then m (λ st. judge st (f .before))) e ∙ f .passed; refuses = f .refuses }
-    by (refused q) e k ih = record { before = []; at = o; after = os; reached = st; split = P.refl; passed = P.refl; refuses = e ∙ k }
-
-first-from : (st : State) (os : List Occurrence) (r : Refusal) → First st os r → judge st os ≡ refused r
-unfolding judge
-first-from st os r f =
-    ap (judge st) (f .split) ∙ judge-append (f .before) st (f .at ∷ f .after) ∙ ap (λ m. then m (λ st. judge st (f .at ∷ f .after))) (f .passed) ∙
-    ap (λ m. then m (λ st. judge st (f .after))) (f .refuses)
-
-pub firsts : First-law
-firsts st os r = (first-to st os r, first-from st os r)

@@ -4,8 +4,6 @@ pub mod Sound
 pub mod Complete
 pub mod Small
 pub mod Examples
-pub mod Judging
-pub mod Programs
 pub mod Derived
 pub mod Accepting
 pub mod Limits

@@ -27,12 +27,12 @@ name-p = record { bytes = padded (codes "p") }
 
 -- main(s:[[int]]):[int] = {reduce sum(r) : r in s}
 abbrev pub totals : Tree
-totals = Tree.program 5 name-s 16 (Tree.many 7 (Tree.many 8 (Tree.int 9))) (Tree.many 16 (Tree.int 17))
+totals = Tree.program 7 name-s 16 (Tree.many 7 (Tree.many 8 (Tree.int 9))) (Tree.many 16 (Tree.int 17))
     (Tree.each 24 name-r (Tree.fold 25 Fold.reduce Sum (Tree.variable 36 name-r)) (Tree.variable 46 name-s))
 
 -- main(s:[int]):[int] = .. for a body that begins at 22
 abbrev rows-of-ints : Tree → Tree
-rows-of-ints e = Tree.program 5 name-s 14 (Tree.many 7 (Tree.int 8)) (Tree.many 14 (Tree.int 15)) e
+rows-of-ints e = Tree.program 7 name-s 14 (Tree.many 7 (Tree.int 8)) (Tree.many 14 (Tree.int 15)) e
 
 -- {1 + true : r in s | 5}
 abbrev pub adds-a-bool : Tree
@@ -45,13 +45,13 @@ unknown-twice = rows-of-ints (Tree.sieve 22 name-r (Tree.variable 23 name-p) (Tr
 -- main(s:[[[[[[[[int]]]]]]]]):int = p
 abbrev pub deep-type : Tree
 deep-type =
-    Tree.program 5 name-s 28
+    Tree.program 7 name-s 28
     (Tree.many 7 (Tree.many 8 (Tree.many 9 (Tree.many 10 (Tree.many 11 (Tree.many 12 (Tree.many 13 (Tree.many 14 (Tree.int 15))))))))) (Tree.int 28)
     (Tree.variable 34 name-p)
 
 -- main(s:int):bool = (s,s)
 abbrev pub other-type : Tree
-other-type = Tree.program 5 name-s 12 (Tree.int 7) (Tree.bool 12) (Tree.pair 19 (Tree.variable 20 name-s) (Tree.variable 22 name-s))
+other-type = Tree.program 7 name-s 12 (Tree.int 7) (Tree.bool 12) (Tree.pair 19 (Tree.variable 20 name-s) (Tree.variable 22 name-s))
 
 -- main(s:int):[int] = .. for elements at 21, 23 and so on
 abbrev items : ℕ → Tree → Tree
@@ -60,16 +60,16 @@ items n es = Tree.more es (Tree.variable n name-s)
 -- nine elements
 abbrev pub nine-elements : Tree
 nine-elements =
-    Tree.program 5 name-s 12 (Tree.int 7) (Tree.many 12 (Tree.int 13))
+    Tree.program 7 name-s 12 (Tree.int 7) (Tree.many 12 (Tree.int 13))
     (Tree.list 20 (items 37 (items 35 (items 33 (items 31 (items 29 (items 27 (items 25 (items 23 (Tree.first (Tree.variable 21 name-s)))))))))))
 
 -- main(s:int):int = if s then p else p
 abbrev pub int-for-bool : Tree
-int-for-bool = Tree.program 5 name-s 12 (Tree.int 7) (Tree.int 12) (Tree.choice 18 (Tree.variable 21 name-s) (Tree.variable 28 name-p) (Tree.variable 35 name-p))
+int-for-bool = Tree.program 7 name-s 12 (Tree.int 7) (Tree.int 12) (Tree.choice 18 (Tree.variable 21 name-s) (Tree.variable 28 name-p) (Tree.variable 35 name-p))
 
 -- main(s:int):int = let s = true in if s then 1 else 2
 abbrev pub inner-name : Tree
-inner-name = Tree.program 5 name-s 12 (Tree.int 7) (Tree.int 12) (Tree.bind 18 name-s (Tree.truth 26 true) (Tree.choice 34 (Tree.variable 37 name-s) (Tree.number 44 1) (Tree.number 51 2)))
+inner-name = Tree.program 7 name-s 12 (Tree.int 7) (Tree.int 12) (Tree.bind 18 name-s (Tree.truth 26 true) (Tree.choice 34 (Tree.variable 37 name-s) (Tree.number 44 1) (Tree.number 51 2)))
 
 pub record Examples : Type 0 where
   pub accepts : check totals ≡ ok (record { parameter = list (list int); result = list int; body = over 24 (var 46 here) (prim 25 (reduceOp Sum) (more (var 36 here) nil)); weight = 13 })

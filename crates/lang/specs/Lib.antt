@@ -8,10 +8,8 @@ pub mod Written
 pub mod Elaborate
 pub mod Check
 pub mod Typing
+pub mod Phrases
 pub mod Laws
 pub mod Examples
-pub mod Phrases
-pub mod Judging
-pub mod Agreement
 pub mod Accepting
 pub mod Limits

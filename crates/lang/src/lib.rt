@@ -1,9 +1,8 @@
 // The language: its values and expressions, what may be written and of which type, and how heavy a program is.
 // The definitions stand in specs/; each function here carries a theorem on them.
-ghost use Rattle.lang.specs.Accepting.{Check-law, First-law};
-ghost use Rattle.lang.specs.Agreement.{Judging-law, Program-law, Derived-law};
+ghost use Rattle.lang.specs.Accepting.{Check-law};
 ghost use Rattle.lang.specs.Examples.{Examples};
-ghost use Rattle.lang.specs.Laws.{Typing-law, Unique-law, Small-law};
+ghost use Rattle.lang.specs.Laws.{Typing-law, Unique-law, Small-law, Derived-law};
 ghost use Rattle.lang.specs.Limits.{Limits-law};
 
 // Elaboration answers an expression of a type where the type rules give that type, and only there.
@@ -48,28 +47,7 @@ pub fn examples_stand() -> u8
     0
 }
 
-// Judging the occurrences of an expression, one after the other, refuses as elaboration does, or leaves its type.
-pub fn judging_agrees() -> u8
-    ensures { λ _. ⌜ Judging-law ⌝ }
-{
-    0
-}
-
-// And those of a whole program as its check does.
-pub fn programs_agree() -> u8
-    ensures { λ _. ⌜ Program-law ⌝ }
-{
-    0
-}
-
-// The refusal is that of the first occurrence that refuses.
-pub fn refusals_are_first() -> u8
-    ensures { λ _. ⌜ First-law ⌝ }
-{
-    0
-}
-
-// The trees that the grammar derives for programs are whole programs.
+// The trees that the grammar derives for programs are programs.
 pub fn derivations_are_programs() -> u8
     ensures { λ _. ⌜ Derived-law ⌝ }
 {

@@ -63,12 +63,20 @@ impl Parser<'_> {
         match comparison(self.peek()) {
             Some(sign) => {
                 let place = self.pass();
-                self.total()?;
+                self.comparand()?;
                 self.push(What::Operate(sign), place);
                 Ok(())
             }
             None => Ok(()),
         }
+    }
+
+    // The right side of a comparison, which is no comparison itself.
+    fn comparand(&mut self) -> Result<(), ParseFault>
+        requires { ⌜ Ready (now self) ⌝ }
+        ensures { λ r. ⌜ Passes (chains sums) r (now (self .entry)) (now (self .exit)) ⌝ }
+    {
+        Parser::total(self)
     }
 
     pub fn total(&mut self) -> Result<(), ParseFault>
@@ -78,10 +86,18 @@ impl Parser<'_> {
         self.term()?;
         while let Some(sign) = sum_sign(self.peek()) {
             let place = self.pass();
-            self.term()?;
+            self.addend()?;
             self.push(What::Operate(sign), place);
         }
         Ok(())
+    }
+
+    // The right side of a sum's sign: signs group to the left.
+    fn addend(&mut self) -> Result<(), ParseFault>
+        requires { ⌜ Ready (now self) ⌝ }
+        ensures { λ r. ⌜ Passes (chains products) r (now (self .entry)) (now (self .exit)) ⌝ }
+    {
+        Parser::term(self)
     }
 
     pub fn term(&mut self) -> Result<(), ParseFault>

@@ -18,7 +18,7 @@ use Rattle.reader.proofs.Ways.{take-on, name-on, joint-on, read-on, read-then,
 use Rattle.reader.proofs.Begun.{let-way, if-way, test-way, chain-way, post-way, group-way, list-way, each-way, word-way, part-way, fold-way, operand-way, paired, closed, sieved, unsieved, another, no-other, link, bracket, compare}
 use Rattle.reader.proofs.Phrases.{placed, leaf-read, let-read, if-read, test-read, compare-read, alone-read, group-read, pair-read, part-read, operand-read, word-read, fold-read, each-read, sieve-read}
 use Rattle.reader.proofs.Repeats.{loops-none, link-again, index-again, chain-read, post-read, counts-none, counts-more, list-read}
-use Rattle.reader.proofs.parser.Parser.+apply+atom+bind+choice+each+expr+group+list+operand+part+post+reduce+scan+term+test+total.Needs as need
+use Rattle.reader.proofs.parser.Parser.+addend+apply+atom+bind+choice+comparand+each+expr+group+list+operand+part+post+reduce+scan+term+test+total.Needs as need
 
 -- let
 
@@ -317,17 +317,17 @@ total-loop-sign-holds t c = let r = ready-on (c .pre) (read-on (chain-way sums l
 pub total-pass-place-requires : need.total-pass-place-requires
 total-pass-place-requires t c κs = (c .loop-sign .inv .0, subst (λ x. isStop x ≡ false) (sym (sym (c .peek .ensures) ∙ (c .in-Some .ensures tt) .1)) (sign-passes _))
 
-pub total-term-requires-in-Some : need.total-term-requires-in-Some
-total-term-requires-in-Some t c κs = let w = (link (loop-on (read-on (chain-way sums last (c .pre)) (free-links sums last (ended (chains sums))) (c .in-Continue-term .ensures tt)) (ended (chains sums)) (c .loop-sign .inv .1)) (ended (chains sums)) ((c .in-Some .ensures tt) .0) (sym (c .peek .ensures) ∙ (c .in-Some .ensures tt) .1) (c .pass-place .ensures .took)) in (falls 4 5 t w (omega arith) (omega arith) (c .measured), ready-on (c .pre) w)
+pub total-addend-requires : need.total-addend-requires
+total-addend-requires t c κs = let w = (link (loop-on (read-on (chain-way sums last (c .pre)) (free-links sums last (ended (chains sums))) (c .in-Continue-term .ensures tt)) (ended (chains sums)) (c .loop-sign .inv .1)) (ended (chains sums)) ((c .in-Some .ensures tt) .0) (sym (c .peek .ensures) ∙ (c .in-Some .ensures tt) .1) (c .pass-place .ensures .took)) in (falls 6 5 t w (omega arith) (omega arith) (c .measured), ready-on (c .pre) w)
 
-pub total-returns-in-Break-term-2 : need.total-returns-in-Break-term-2
-total-returns-in-Break-term-2 t c = fails _ _ _ (c .from-residual-in-Break-term-2 .ensures .1) (halts (link (loop-on (read-on (chain-way sums last (c .pre)) (free-links sums last (ended (chains sums))) (c .in-Continue-term .ensures tt)) (ended (chains sums)) (c .loop-sign .inv .1)) (ended (chains sums)) ((c .in-Some .ensures tt) .0) (sym (c .peek .ensures) ∙ (c .in-Some .ensures tt) .1) (c .pass-place .ensures .took)) (c .in-Break-term-2 .ensures tt) (λ γ s free. stops-on (link (loop-on (read-on (chain-way sums γ (c .pre)) (free-links sums γ free) (c .in-Continue-term .ensures tt)) free (c .loop-sign .inv .1)) free ((c .in-Some .ensures tt) .0) (sym (c .peek .ensures) ∙ (c .in-Some .ensures tt) .1) (c .pass-place .ensures .took)) (free-links sums γ free) (c .in-Break-term-2 .ensures tt) s))
+pub total-returns-in-Break-addend : need.total-returns-in-Break-addend
+total-returns-in-Break-addend t c = fails _ _ _ (c .from-residual-in-Break-addend .ensures .1) (halts (link (loop-on (read-on (chain-way sums last (c .pre)) (free-links sums last (ended (chains sums))) (c .in-Continue-term .ensures tt)) (ended (chains sums)) (c .loop-sign .inv .1)) (ended (chains sums)) ((c .in-Some .ensures tt) .0) (sym (c .peek .ensures) ∙ (c .in-Some .ensures tt) .1) (c .pass-place .ensures .took)) (c .in-Break-addend .ensures tt) (λ γ s free. stops-on (link (loop-on (read-on (chain-way sums γ (c .pre)) (free-links sums γ free) (c .in-Continue-term .ensures tt)) free (c .loop-sign .inv .1)) free ((c .in-Some .ensures tt) .0) (sym (c .peek .ensures) ∙ (c .in-Some .ensures tt) .1) (c .pass-place .ensures .took)) (free-links sums γ free) (c .in-Break-addend .ensures tt) s))
 
 pub total-push-requires : need.total-push-requires
-total-push-requires t c κs = room (c .pre) (read-on (link (loop-on (read-on (chain-way sums last (c .pre)) (free-links sums last (ended (chains sums))) (c .in-Continue-term .ensures tt)) (ended (chains sums)) (c .loop-sign .inv .1)) (ended (chains sums)) ((c .in-Some .ensures tt) .0) (sym (c .peek .ensures) ∙ (c .in-Some .ensures tt) .1) (c .pass-place .ensures .took)) (free-links sums last (ended (chains sums))) (c .in-Continue-term-2 .ensures tt)) (omega arith)
+total-push-requires t c κs = room (c .pre) (read-on (link (loop-on (read-on (chain-way sums last (c .pre)) (free-links sums last (ended (chains sums))) (c .in-Continue-term .ensures tt)) (ended (chains sums)) (c .loop-sign .inv .1)) (ended (chains sums)) ((c .in-Some .ensures tt) .0) (sym (c .peek .ensures) ∙ (c .in-Some .ensures tt) .1) (c .pass-place .ensures .took)) (free-links sums last (ended (chains sums))) (c .in-Continue-addend .ensures tt)) (omega arith)
 
 pub total-loop-sign-again : need.total-loop-sign-again
-total-loop-sign-again t c = (ready-on (c .pre) (push-on (read-on (link (loop-on (read-on (chain-way sums last (c .pre)) (free-links sums last (ended (chains sums))) (c .in-Continue-term .ensures tt)) (ended (chains sums)) (c .loop-sign .inv .1)) (ended (chains sums)) ((c .in-Some .ensures tt) .0) (sym (c .peek .ensures) ∙ (c .in-Some .ensures tt) .1) (c .pass-place .ensures .took)) (free-links sums last (ended (chains sums))) (c .in-Continue-term-2 .ensures tt)) (c .push .ensures) (omega arith)), link-again sums (c .loop-sign .inv .0) (c .loop-sign .inv .1) ((c .in-Some .ensures tt) .0) (sym (c .peek .ensures) ∙ (c .in-Some .ensures tt) .1) (c .pass-place .ensures .took) (c .pass-place .ensures .place) (c .in-Continue-term-2 .ensures tt) (c .push .ensures))
+total-loop-sign-again t c = (ready-on (c .pre) (push-on (read-on (link (loop-on (read-on (chain-way sums last (c .pre)) (free-links sums last (ended (chains sums))) (c .in-Continue-term .ensures tt)) (ended (chains sums)) (c .loop-sign .inv .1)) (ended (chains sums)) ((c .in-Some .ensures tt) .0) (sym (c .peek .ensures) ∙ (c .in-Some .ensures tt) .1) (c .pass-place .ensures .took)) (free-links sums last (ended (chains sums))) (c .in-Continue-addend .ensures tt)) (c .push .ensures) (omega arith)), link-again sums (c .loop-sign .inv .0) (c .loop-sign .inv .1) ((c .in-Some .ensures tt) .0) (sym (c .peek .ensures) ∙ (c .in-Some .ensures tt) .1) (c .pass-place .ensures .took) (c .pass-place .ensures .place) (c .in-Continue-addend .ensures tt) (c .push .ensures))
 
 pub total-returns : need.total-returns
 total-returns t c = chain-read sums (c .pre) (c .in-Continue-term .ensures tt) (c .loop-sign .inv .1) (λ o j x. c .in-rest .ensures tt o j (c .peek .ensures ∙ x))
@@ -369,17 +369,17 @@ test-peek-requires t c κs = ready-on (c .pre) (read-on (test-way last (c .pre))
 pub test-pass-place-requires : need.test-pass-place-requires
 test-pass-place-requires t c κs = (ready-on (c .pre) (read-on (test-way last (c .pre)) (free-compared last (ended tests)) (c .in-Continue-total .ensures tt)), subst (λ x. isStop x ≡ false) (sym (sym (c .peek .ensures) ∙ (c .in-Some .ensures tt) .1)) (sign-passes _))
 
-pub test-total-requires-in-Some : need.test-total-requires-in-Some
-test-total-requires-in-Some t c κs = let w = (compare (read-on (test-way last (c .pre)) (free-compared last (ended tests)) (c .in-Continue-total .ensures tt)) (ended tests) ((c .in-Some .ensures tt) .0) (sym (c .peek .ensures) ∙ (c .in-Some .ensures tt) .1) (c .pass-place .ensures .took)) in (falls 5 6 t w (omega arith) (omega arith) (c .measured), ready-on (c .pre) w)
+pub test-comparand-requires : need.test-comparand-requires
+test-comparand-requires t c κs = let w = (compare (read-on (test-way last (c .pre)) (free-compared last (ended tests)) (c .in-Continue-total .ensures tt)) (ended tests) ((c .in-Some .ensures tt) .0) (sym (c .peek .ensures) ∙ (c .in-Some .ensures tt) .1) (c .pass-place .ensures .took)) in (falls 7 6 t w (omega arith) (omega arith) (c .measured), ready-on (c .pre) w)
 
-pub test-returns-in-Break-total-2 : need.test-returns-in-Break-total-2
-test-returns-in-Break-total-2 t c = fails _ _ _ (c .from-residual-in-Break-total-2 .ensures .1) (halts (compare (read-on (test-way last (c .pre)) (free-compared last (ended tests)) (c .in-Continue-total .ensures tt)) (ended tests) ((c .in-Some .ensures tt) .0) (sym (c .peek .ensures) ∙ (c .in-Some .ensures tt) .1) (c .pass-place .ensures .took)) (c .in-Break-total-2 .ensures tt) (λ γ s free. stops-on (compare (read-on (test-way γ (c .pre)) (free-compared γ free) (c .in-Continue-total .ensures tt)) free ((c .in-Some .ensures tt) .0) (sym (c .peek .ensures) ∙ (c .in-Some .ensures tt) .1) (c .pass-place .ensures .took)) (free-total γ free) (c .in-Break-total-2 .ensures tt) s))
+pub test-returns-in-Break-comparand : need.test-returns-in-Break-comparand
+test-returns-in-Break-comparand t c = fails _ _ _ (c .from-residual-in-Break-comparand .ensures .1) (halts (compare (read-on (test-way last (c .pre)) (free-compared last (ended tests)) (c .in-Continue-total .ensures tt)) (ended tests) ((c .in-Some .ensures tt) .0) (sym (c .peek .ensures) ∙ (c .in-Some .ensures tt) .1) (c .pass-place .ensures .took)) (c .in-Break-comparand .ensures tt) (λ γ s free. stops-on (compare (read-on (test-way γ (c .pre)) (free-compared γ free) (c .in-Continue-total .ensures tt)) free ((c .in-Some .ensures tt) .0) (sym (c .peek .ensures) ∙ (c .in-Some .ensures tt) .1) (c .pass-place .ensures .took)) (free-total γ free) (c .in-Break-comparand .ensures tt) s))
 
 pub test-push-requires : need.test-push-requires
-test-push-requires t c κs = room (c .pre) (read-on (compare (read-on (test-way last (c .pre)) (free-compared last (ended tests)) (c .in-Continue-total .ensures tt)) (ended tests) ((c .in-Some .ensures tt) .0) (sym (c .peek .ensures) ∙ (c .in-Some .ensures tt) .1) (c .pass-place .ensures .took)) (free-total last (ended tests)) (c .in-Continue-total-2 .ensures tt)) (omega arith)
+test-push-requires t c κs = room (c .pre) (read-on (compare (read-on (test-way last (c .pre)) (free-compared last (ended tests)) (c .in-Continue-total .ensures tt)) (ended tests) ((c .in-Some .ensures tt) .0) (sym (c .peek .ensures) ∙ (c .in-Some .ensures tt) .1) (c .pass-place .ensures .took)) (free-total last (ended tests)) (c .in-Continue-comparand .ensures tt)) (omega arith)
 
-pub test-returns-in-Continue-total-2 : need.test-returns-in-Continue-total-2
-test-returns-in-Continue-total-2 t c = compare-read (c .pre) (c .in-Continue-total .ensures tt) ((c .in-Some .ensures tt) .0) (sym (c .peek .ensures) ∙ (c .in-Some .ensures tt) .1) (c .pass-place .ensures .took) (c .pass-place .ensures .place) (c .in-Continue-total-2 .ensures tt) (c .push .ensures)
+pub test-returns-in-Continue-comparand : need.test-returns-in-Continue-comparand
+test-returns-in-Continue-comparand t c = compare-read (c .pre) (c .in-Continue-total .ensures tt) ((c .in-Some .ensures tt) .0) (sym (c .peek .ensures) ∙ (c .in-Some .ensures tt) .1) (c .pass-place .ensures .took) (c .pass-place .ensures .place) (c .in-Continue-comparand .ensures tt) (c .push .ensures)
 
 pub test-returns-in-None : need.test-returns-in-None
 test-returns-in-None t c = alone-read (c .pre) (c .in-Continue-total .ensures tt) (λ o j x. c .in-None .ensures tt o j (c .peek .ensures ∙ x))
@@ -650,4 +650,4 @@ pub term-loop-sign-less : need.term-loop-sign-less
 term-loop-sign-less t c = shorter-pushed (read-on (link (start-at (rest (links products) ∷ last) (c .loop-sign .inv .0)) (ended (chains products)) ((c .in-Some .ensures tt) .0) (sym (c .peek .ensures) ∙ (c .in-Some .ensures tt) .1) (c .pass-place .ensures .took)) (free-links products last (ended (chains products))) (c .in-Continue-post-2 .ensures tt)) (omega arith) (c .push .ensures)
 
 pub total-loop-sign-less : need.total-loop-sign-less
-total-loop-sign-less t c = shorter-pushed (read-on (link (start-at (rest (links sums) ∷ last) (c .loop-sign .inv .0)) (ended (chains sums)) ((c .in-Some .ensures tt) .0) (sym (c .peek .ensures) ∙ (c .in-Some .ensures tt) .1) (c .pass-place .ensures .took)) (free-links sums last (ended (chains sums))) (c .in-Continue-term-2 .ensures tt)) (omega arith) (c .push .ensures)
+total-loop-sign-less t c = shorter-pushed (read-on (link (start-at (rest (links sums) ∷ last) (c .loop-sign .inv .0)) (ended (chains sums)) ((c .in-Some .ensures tt) .0) (sym (c .peek .ensures) ∙ (c .in-Some .ensures tt) .1) (c .pass-place .ensures .took)) (free-links sums last (ended (chains sums))) (c .in-Continue-addend .ensures tt)) (omega arith) (c .push .ensures)

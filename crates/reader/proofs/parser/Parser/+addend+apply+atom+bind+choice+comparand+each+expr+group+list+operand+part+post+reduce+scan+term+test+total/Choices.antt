@@ -3,7 +3,10 @@ use lib.ListN.{length}
 use Rattle.grammar.specs.Grammar.{chains, sums, products, posts}
 use Rattle.grammar.specs.Law.{links, indexes}
 use Rattle.reader.specs.Steps.{Ready, Loops, Counts}
-use Rattle.reader.proofs.parser.Parser.+apply+atom+bind+choice+each+expr+group+list+operand+part+post+reduce+scan+term+test+total.Given as given
+use Rattle.reader.proofs.parser.Parser.+addend+apply+atom+bind+choice+comparand+each+expr+group+list+operand+part+post+reduce+scan+term+test+total.Given as given
+
+abbrev pub μ-addend : given.MeasureT-addend
+μ-addend l = 8 * (length (l .self .now .tokens .now) - l .self .now .at) + 6
 
 abbrev pub μ-apply : given.MeasureT-apply
 μ-apply l = 8 * (length (l .self .now .tokens .now) - l .self .now .at) + 1
@@ -16,6 +19,9 @@ abbrev pub μ-bind : given.MeasureT-bind
 
 abbrev pub μ-choice : given.MeasureT-choice
 μ-choice l = 8 * (length (l .self .now .tokens .now) - l .self .now .at) + 6
+
+abbrev pub μ-comparand : given.MeasureT-comparand
+μ-comparand l = 8 * (length (l .self .now .tokens .now) - l .self .now .at) + 7
 
 abbrev pub μ-each : given.MeasureT-each
 μ-each l = 8 * (length (l .self .now .tokens .now) - l .self .now .at) + 1

@@ -1,0 +1,14 @@
+pub mod Marking
+pub mod Forks
+pub mod Outcomes
+pub mod States
+pub mod Nodes
+pub mod Operands
+pub mod Steps
+pub mod Judges
+pub mod Branches
+pub mod Types
+pub mod Primitives
+pub mod Phrases
+pub mod Whole
+pub mod First
