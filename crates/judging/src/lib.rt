@@ -1,5 +1,5 @@
-// Checking programs.
-ghost use Rattle.typing.specs.Laws.{Judging-law, Checking-law, First-law};
+// Judging programs, occurrence by occurrence.
+ghost use Rattle.judging.specs.Laws.{Judging-law, Checking-law, First-law};
 
 // Judging a program occurrence by occurrence refuses it where checking it does, with the same number and place, and
 // otherwise ends with its notes and its weight.

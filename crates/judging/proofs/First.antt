@@ -7,8 +7,8 @@ use native.Mathlib.Omega.{arith}
 use Rattle.tokens.specs.Faults.{Refusal}
 use Rattle.grammar.specs.declared.occurrence.Occurrence.{Occurrence}
 use Rattle.lang.specs.Outcome.{Out, ok, refused, then}
-use Rattle.typing.specs.Judging.{State, step, judge}
-use Rattle.typing.specs.Laws.{First, First-law}
+use Rattle.judging.specs.Judging.{State, step, judge}
+use Rattle.judging.specs.Laws.{First, First-law}
 
 -- one part after the other
 judge-append : (xs ys : List Occurrence) (s : State) → judge (xs ++ ys) s ≡ then (judge xs s) (λ s. judge ys s)

@@ -11,8 +11,8 @@ use Rattle.grammar.specs.Tree.{Tree, occs}
 use Rattle.lang.specs.Outcome.{Out, ok, refused, then}
 use Rattle.lang.specs.Check.{Checked, check}
 use Rattle.lang.specs.Phrases.{Program}
-use Rattle.typing.specs.Notes.{Note, note, typeNotes, notes}
-use Rattle.typing.specs.Judging.{State, step, judge, begin, finish}
+use Rattle.judging.specs.Notes.{Note, note, typeNotes, notes}
+use Rattle.judging.specs.Judging.{State, step, judge, begin, finish}
 
 -- the notes of a program: of the parameter's type and the parameter, of the result's type and the result, of the body
 abbrev pub programNotes : Checked → List Note

@@ -26,13 +26,13 @@ use Rattle.lang.specs.Check.{declared as declared-as}
 use Rattle.lang.specs.Phrases.{a-program}
 use Rattle.lang.proofs.Sound.{Holds}
 use Rattle.lang.proofs.Derived.{derived}
-use Rattle.typing.specs.Notes.{notes}
-use Rattle.typing.specs.Judging.{State, top, mark, popped, entered, declared, judge, begin, finish}
-use Rattle.typing.specs.Laws.{programNotes, Agree, Judging-law, Checking-law}
-use Rattle.typing.proofs.States.{after, made}
-use Rattle.typing.proofs.Judges.{Judges, join-4}
-use Rattle.typing.proofs.Types.{Writing, wrote, writing}
-use Rattle.typing.proofs.Phrases.{judges}
+use Rattle.judging.specs.Notes.{notes}
+use Rattle.judging.specs.Judging.{State, top, mark, popped, entered, declared, judge, begin, finish}
+use Rattle.judging.specs.Laws.{programNotes, Agree, Judging-law, Checking-law}
+use Rattle.judging.proofs.States.{after, made}
+use Rattle.judging.proofs.Judges.{Judges, join-4}
+use Rattle.judging.proofs.Types.{Writing, wrote, writing}
+use Rattle.judging.proofs.Phrases.{judges}
 
 -- the state at the end
 abbrev ended : Name → Checked → State

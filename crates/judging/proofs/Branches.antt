@@ -14,12 +14,12 @@ use Rattle.lang.specs.Outcome.{Out, ok, then, refuse}
 use Rattle.lang.specs.Rules.{limit}
 use Rattle.lang.specs.Expr.{Expr, over, each}
 use Rattle.lang.specs.Elaborate.{Typed, elaborate}
-use Rattle.typing.specs.Judging.{State, popped, filtering, mark, fits, judge}
-use Rattle.typing.proofs.Outcomes.{then-assoc, Slim, slim}
-use Rattle.typing.proofs.States.{after, Fine, fine-marks, fine-fork, fine-filter, fine-entered}
-use Rattle.typing.proofs.Nodes.{if-forked, if-joined, if-state, each-forked, each-joined, over-state, each-state}
-use Rattle.typing.proofs.Steps.{fits-then, rows-then, within-then}
-use Rattle.typing.proofs.Judges.{Judges, on, join-4, join-6}
+use Rattle.judging.specs.Judging.{State, popped, filtering, mark, fits, judge}
+use Rattle.judging.proofs.Outcomes.{then-assoc, Slim, slim}
+use Rattle.judging.proofs.States.{after, Fine, fine-marks, fine-fork, fine-filter, fine-entered}
+use Rattle.judging.proofs.Nodes.{if-forked, if-joined, if-state, each-forked, each-joined, over-state, each-state}
+use Rattle.judging.proofs.Steps.{fits-then, rows-then, within-then}
+use Rattle.judging.proofs.Judges.{Judges, on, join-4, join-6}
 
 pub judges-if : {c a b : Tree} (p : ℕ) → Judges c → Judges a → Judges b → Judges (Tree.choice p c a b)
 unfolding elaborate

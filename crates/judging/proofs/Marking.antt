@@ -11,8 +11,8 @@ use Rattle.std.proofs.shelf.Tests.{lt-ltb, le-ltb, cases-lt}
 use Rattle.std.proofs.shelf.Lists.{length-replicate}
 use Rattle.types.specs.Types.{Ty}
 use Rattle.lang.specs.Expr.{Var, here, there, Mask, empty, single, union}
-use Rattle.typing.specs.Notes.{indexOf}
-use Rattle.typing.specs.Judging.{usedAt}
+use Rattle.judging.specs.Notes.{indexOf}
+use Rattle.judging.specs.Judging.{usedAt}
 
 -- the flags of a set
 abbrev pub flags : (Γ : List Ty) → Mask Γ → List Bool

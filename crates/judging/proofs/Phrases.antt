@@ -2,10 +2,10 @@
 use Rattle.grammar.specs.Tree.{Tree}
 use Rattle.lang.specs.Phrases.{Phrase, a-number, a-truth, a-variable, a-let, a-choice, an-each, a-sieve, an-infix, a-unary, a-fold, an-index, a-group, a-pair, a-part, an-empty, a-list}
 use Rattle.lang.specs.Phrases.{Elements, the-first, one-more}
-use Rattle.typing.proofs.Types.{writing}
-use Rattle.typing.proofs.Judges.{Judges, judges-number, judges-truth, judges-variable, judges-group, judges-let}
-use Rattle.typing.proofs.Branches.{judges-if, judges-each, judges-sieve}
-use Rattle.typing.proofs.Primitives.{judges-unary, judges-fold, judges-infix, judges-index, judges-pair, judges-part, judges-empty, JudgesAll, all-first, all-more, judges-list}
+use Rattle.judging.proofs.Types.{writing}
+use Rattle.judging.proofs.Judges.{Judges, judges-number, judges-truth, judges-variable, judges-group, judges-let}
+use Rattle.judging.proofs.Branches.{judges-if, judges-each, judges-sieve}
+use Rattle.judging.proofs.Primitives.{judges-unary, judges-fold, judges-infix, judges-index, judges-pair, judges-part, judges-empty, JudgesAll, all-first, all-more, judges-list}
 
 mutual
   pub judges : {e : Tree} → Phrase e → Judges e

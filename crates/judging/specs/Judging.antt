@@ -14,7 +14,7 @@ use Rattle.lang.specs.Outcome.{Out, ok, refused, then, refuse}
 use Rattle.lang.specs.Rules.{Verdict, gives, unfit, large, limit, infix-rule, pair-rule, index-rule, part-rule, unary-rule, fold-rule, empty-rule, list-rule}
 use Rattle.lang.specs.Scope.{Binding, bound, same-name}
 use Rattle.types.specs.Entries.{counted}
-use Rattle.typing.specs.Notes.{Note, note}
+use Rattle.judging.specs.Notes.{Note, note}
 
 -- Parts are counted up to a million, as the table of types does it; no type of an expression has more than eight.
 abbrev pub countedOf : List Ty → ℕ

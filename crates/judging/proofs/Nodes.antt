@@ -15,11 +15,11 @@ use Rattle.lang.specs.Expr.{Expr, Args, free, frees, con, group, var, bind, pri
 use Rattle.lang.specs.Weight.{weight, weights, partsIn}
 use Rattle.lang.specs.Scope.{Binding, bound, kinds}
 use Rattle.lang.specs.Laws.{Small}
-use Rattle.typing.specs.Notes.{Note, note, indexOf, notes, notesOf, writtenIn}
-use Rattle.typing.specs.Judging.{State, Fork, countedOf, usesAt, partsUsed, noted, weighing, popped, pushed, entered, left, with-forks, forked, fork, joined, filtering, mark, top}
-use Rattle.typing.proofs.Marking.{flags, marked, marked-length, marked-inner, marked-twice}
-use Rattle.typing.proofs.Forks.{marks, Inside, inside-marks, marks-none, marks-twice, marks-single, marks-inner, AllSmall, counted-small, counted-all, kinds-length, scope-flags, parts-since}
-use Rattle.typing.proofs.States.{after, spent, made-same, Fine}
+use Rattle.judging.specs.Notes.{Note, note, indexOf, notes, notesOf, writtenIn}
+use Rattle.judging.specs.Judging.{State, Fork, countedOf, usesAt, partsUsed, noted, weighing, popped, pushed, entered, left, with-forks, forked, fork, joined, filtering, mark, top}
+use Rattle.judging.proofs.Marking.{flags, marked, marked-length, marked-inner, marked-twice}
+use Rattle.judging.proofs.Forks.{marks, Inside, inside-marks, marks-none, marks-twice, marks-single, marks-inner, AllSmall, counted-small, counted-all, kinds-length, scope-flags, parts-since}
+use Rattle.judging.proofs.States.{after, spent, made-same, Fine}
 
 -- ---- leaves
 pub con-state : {t : Ty} (s : State) (p : ℕ) (k : Scalar t) → noted (note t) (weighing 1 (pushed t s)) ≡ after {Γ = kinds (s .scope)} (con p k) s

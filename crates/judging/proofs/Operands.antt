@@ -12,11 +12,11 @@ use Rattle.lang.specs.Expr.{Expr, Args, free, frees, prim, nil, more}
 use Rattle.lang.specs.Weight.{weight, weights}
 use Rattle.lang.specs.Scope.{kinds}
 use Rattle.lang.specs.Elaborate.{add-last}
-use Rattle.typing.specs.Notes.{Note, note, notes, notesOf, writtenIn}
-use Rattle.typing.specs.Judging.{State, Fork, countedOf, noted, weighing, popped, pushed}
-use Rattle.typing.proofs.Marking.{flags}
-use Rattle.typing.proofs.Forks.{marks, marks-none, marks-twice, AllSmall, counted-small, counted-all}
-use Rattle.typing.proofs.States.{after, spent, stacked, made, made-same}
+use Rattle.judging.specs.Notes.{Note, note, notes, notesOf, writtenIn}
+use Rattle.judging.specs.Judging.{State, Fork, countedOf, noted, weighing, popped, pushed}
+use Rattle.judging.proofs.Marking.{flags}
+use Rattle.judging.proofs.Forks.{marks, marks-none, marks-twice, AllSmall, counted-small, counted-all}
+use Rattle.judging.proofs.States.{after, spent, stacked, made, made-same}
 
 -- a primitive of one operand or more writes no type
 none-written : {a t : Ty} {ts : List Ty} (o : Op (a ∷ ts) t) → writtenIn o ≡ []

@@ -16,12 +16,12 @@ use Rattle.lang.specs.Scope.{Binding, kinds, same-name, Found, lookup, choose}
 use Rattle.lang.specs.Expr.{Expr, over, each}
 use Rattle.lang.specs.Elaborate.{Typed, found, elaborate}
 use Rattle.lang.proofs.Sound.{Holds}
-use Rattle.typing.specs.Notes.{indexOf}
-use Rattle.typing.specs.Judging.{State, popped, entered, filtering, mark, nearer, find, variable, fits, judge}
-use Rattle.typing.proofs.Outcomes.{then-assoc, then-holding, Slim, slim}
-use Rattle.typing.proofs.States.{after, Fine, fine-marks, fine-fork, fine-filter, fine-entered}
-use Rattle.typing.proofs.Nodes.{con-state, var-state, group-state, let-state, if-forked, if-joined, if-state, each-forked, each-joined, over-state, each-state}
-use Rattle.typing.proofs.Steps.{fits-then, rows-then, within-then}
+use Rattle.judging.specs.Notes.{indexOf}
+use Rattle.judging.specs.Judging.{State, popped, entered, filtering, mark, nearer, find, variable, fits, judge}
+use Rattle.judging.proofs.Outcomes.{then-assoc, then-holding, Slim, slim}
+use Rattle.judging.proofs.States.{after, Fine, fine-marks, fine-fork, fine-filter, fine-entered}
+use Rattle.judging.proofs.Nodes.{con-state, var-state, group-state, let-state, if-forked, if-joined, if-state, each-forked, each-joined, over-state, each-state}
+use Rattle.judging.proofs.Steps.{fits-then, rows-then, within-then}
 
 pub record Judges (e : Tree) : Type 0 where
   pub run : (s : State) → Fine (s .scope) (s .forks) → (rest : List Occurrence) → judge (occs e ++ rest) s ≡ then (elaborate e (s .scope)) (λ y. judge rest (after (y .1) s))

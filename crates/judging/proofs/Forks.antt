@@ -11,9 +11,9 @@ use Rattle.lang.specs.Expr.{Var, Mask, empty, single, union}
 use Rattle.lang.specs.Scope.{Binding, kinds}
 use Rattle.lang.specs.Weight.{partsOf, partsIn}
 use Rattle.lang.specs.Laws.{Small}
-use Rattle.typing.specs.Notes.{indexOf}
-use Rattle.typing.specs.Judging.{Fork, usesAt, countedOf, partsUsed}
-use Rattle.typing.proofs.Marking.{flags, flags-length, marked, marked-length, marked-inner, marked-none, marked-twice, marked-single, marked-all}
+use Rattle.judging.specs.Notes.{indexOf}
+use Rattle.judging.specs.Judging.{Fork, usesAt, countedOf, partsUsed}
+use Rattle.judging.proofs.Marking.{flags, flags-length, marked, marked-length, marked-inner, marked-none, marked-twice, marked-single, marked-all}
 
 abbrev pub marks : List Bool → List Fork → List Fork
 marks us [] = []

@@ -10,10 +10,10 @@ use Rattle.grammar.specs.Tree.{Tree, occ, occs}
 use Rattle.types.specs.Types.{Ty, int, bool, pair, list}
 use Rattle.lang.specs.Written.{both, many, written}
 use Rattle.lang.specs.Phrases.{TypePhrase, of-int, of-bool, of-both, of-many}
-use Rattle.typing.specs.Notes.{typeNotes}
-use Rattle.typing.specs.Judging.{State, judge}
-use Rattle.typing.proofs.States.{made-same}
-use Rattle.typing.proofs.Judges.{join-3}
+use Rattle.judging.specs.Notes.{typeNotes}
+use Rattle.judging.specs.Judging.{State, judge}
+use Rattle.judging.proofs.States.{made-same}
+use Rattle.judging.proofs.Judges.{join-3}
 
 abbrev pub wrote : Ty → State → State
 wrote t s = record { scope = s .scope; stack = t ∷ s .stack; forks = s .forks; notes = s .notes ++ typeNotes t; weight = s .weight }

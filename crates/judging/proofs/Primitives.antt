@@ -25,15 +25,15 @@ use Rattle.lang.specs.Rules.{Verdict, gives, large, limit, infix-rule, pair-rul
 use Rattle.lang.specs.Elaborate.{Typed, Operands, judged, one as one-of, two as two-of, hollow-list, elaborate, elements}
 use Rattle.lang.specs.Laws.{Small}
 use Rattle.lang.proofs.Sound.{Holds, after as then-holds, long-last}
-use Rattle.typing.specs.Notes.{note, notes, notesOf}
-use Rattle.typing.specs.Judging.{State, countedOf, noted, weighing, pushed, popped, nodeOf, one, two, step, judge}
-use Rattle.typing.proofs.Forks.{AllSmall, marks-none, counted-small}
-use Rattle.typing.proofs.Outcomes.{then-assoc, then-holding, Slim, slim}
-use Rattle.typing.proofs.States.{after, spent, stacked, made-same, Fine, fine-marks}
-use Rattle.typing.proofs.Operands.{one-spent, two-spent, first-stacked, more-stacked, stacked-operands, stacked-popped}
-use Rattle.typing.proofs.Steps.{node-then, list-then}
-use Rattle.typing.proofs.Judges.{Judges, on, join-3}
-use Rattle.typing.proofs.Types.{Writing, wrote}
+use Rattle.judging.specs.Notes.{note, notes, notesOf}
+use Rattle.judging.specs.Judging.{State, countedOf, noted, weighing, pushed, popped, nodeOf, one, two, step, judge}
+use Rattle.judging.proofs.Forks.{AllSmall, marks-none, counted-small}
+use Rattle.judging.proofs.Outcomes.{then-assoc, then-holding, Slim, slim}
+use Rattle.judging.proofs.States.{after, spent, stacked, made-same, Fine, fine-marks}
+use Rattle.judging.proofs.Operands.{one-spent, two-spent, first-stacked, more-stacked, stacked-operands, stacked-popped}
+use Rattle.judging.proofs.Steps.{node-then, list-then}
+use Rattle.judging.proofs.Judges.{Judges, on, join-3}
+use Rattle.judging.proofs.Types.{Writing, wrote}
 
 -- ---- one operand, and two
 module _ {a : Tree} (i : Judges a) where

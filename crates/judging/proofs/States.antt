@@ -12,10 +12,10 @@ use Rattle.lang.specs.Expr.{Expr, Args, free, frees}
 use Rattle.lang.specs.Weight.{weight, weights}
 use Rattle.lang.specs.Scope.{Binding, bound, kinds}
 use Rattle.lang.specs.Laws.{Small}
-use Rattle.typing.specs.Notes.{Note, notes, notesOf}
-use Rattle.typing.specs.Judging.{Fork, State}
-use Rattle.typing.proofs.Marking.{flags}
-use Rattle.typing.proofs.Forks.{marks, Inside, inside-marks, inside-more}
+use Rattle.judging.specs.Notes.{Note, notes, notesOf}
+use Rattle.judging.specs.Judging.{Fork, State}
+use Rattle.judging.proofs.Marking.{flags}
+use Rattle.judging.proofs.Forks.{marks, Inside, inside-marks, inside-more}
 
 -- the type is on the stack, the free variables are marked
 abbrev pub after : {Γ : List Ty} {t : Ty} → Expr Γ t → State → State

@@ -14,12 +14,12 @@ use Rattle.lang.specs.Rules.{Verdict, gives, unfit, large, limit, list-rule}
 use Rattle.lang.specs.Expr.{Op, Expr, Args, prim}
 use Rattle.lang.specs.Elaborate.{Typed, judged, at-type, rows, within}
 use Rattle.lang.proofs.Sound.{Holds}
-use Rattle.typing.specs.Judging.{State, nodeOf, fits, each-fork, judge}
-use Rattle.typing.proofs.Forks.{AllSmall}
-use Rattle.typing.proofs.Outcomes.{Slim}
-use Rattle.typing.proofs.States.{after, spent}
-use Rattle.typing.proofs.Operands.{prim-state}
-use Rattle.typing.proofs.Nodes.{each-forked, each-joined}
+use Rattle.judging.specs.Judging.{State, nodeOf, fits, each-fork, judge}
+use Rattle.judging.proofs.Forks.{AllSmall}
+use Rattle.judging.proofs.Outcomes.{Slim}
+use Rattle.judging.proofs.States.{after, spent}
+use Rattle.judging.proofs.Operands.{prim-state}
+use Rattle.judging.proofs.Nodes.{each-forked, each-joined}
 
 -- a type that is wanted; F is the state for an expression of any type
 pub fits-then : {Γ : List Ty} {t u : Ty} {B C : Type 0} (Q : B → Type 0) (m : Option (Id Ty t u)) (p : ℕ) (x : Expr Γ t) (F : (t : Ty) → Expr Γ t → State)
