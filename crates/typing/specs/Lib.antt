@@ -1,0 +1,4 @@
+pub mod Faults
+pub mod Codes
+pub mod Holding
+pub mod Elements
