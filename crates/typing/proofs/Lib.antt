@@ -6,3 +6,5 @@ pub mod Finding
 pub mod Weighing
 pub mod Steps
 pub mod Bracketing
+pub mod Growing
+pub mod Ending

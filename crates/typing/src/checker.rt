@@ -12,6 +12,7 @@ mod rules;
 mod scope;
 mod stack;
 mod weight;
+mod whole;
 
 use super::parts::Binding;
 use super::parts::Fork;
@@ -28,6 +29,9 @@ pub const LIMIT: usize = 1025;
 
 // The most parts of a type, and the most elements of a list in brackets.
 pub const MAX_PARTS: usize = 8;
+
+// The most that a program weighs.
+const MAX_WEIGHT: usize = 2000;
 
 // What stands in scope, on the stack of types and in the open forks, and what was noted of each occurrence. Types are
 // held by their codes. All memory is taken when the checker is made.

@@ -58,7 +58,7 @@ impl Checker {
     }
 
     // One occurrence.
-    pub fn judge_one(&mut self, o: Occurrence) -> Result<(), CheckFault>
+    pub(super) fn judge_one(&mut self, o: Occurrence) -> Result<(), CheckFault>
         requires { ⌜ Room (held (now self)) ⌝ }
         ensures { λ r. ⌜ Judged (step (o .what) (o .place) (held (now (self .entry)))) (now (self .exit)) r ⌝ }
     {
