@@ -1,4 +1,6 @@
 // Judging programs, occurrence by occurrence.
+#![tactic(auto)]
+
 ghost use Rattle.judging.specs.Laws.{JudgingLaw, CheckingLaw, FirstLaw, ResolvingLaw, AloneLaw};
 
 // Judging a program occurrence by occurrence refuses it where checking it does, with the same number and place, and

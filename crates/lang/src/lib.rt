@@ -1,5 +1,7 @@
 // The language: its values and expressions, what may be written and of which type, and how heavy a program is.
 // The definitions stand in specs/; each function here carries a theorem on them.
+#![tactic(auto)]
+
 ghost use Rattle.lang.specs.Accepting.{CheckLaw};
 ghost use Rattle.lang.specs.Examples.{Examples};
 ghost use Rattle.lang.specs.Laws.{TypingLaw, UniqueLaw, SmallLaw, DerivedLaw};

@@ -1,4 +1,6 @@
 // Monoids: a type of elements with an identity and an associative operation.
+#![tactic(auto)]
+
 ghost use Rattle.std.specs.Prelude.{◌≡◌};
 ghost use Rattle.monoid.specs.Laws.{Laws};
 

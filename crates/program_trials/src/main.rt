@@ -3,6 +3,8 @@
 //   types TEXT         the types of a program's parameter and result, and its weight
 //   value TYPE HEX     whether bytes are the text of a value of a type with at most 1,024 cells; its size, if it is printed as the same bytes
 //   # TEXT             nothing
+#![tactic(auto)]
+
 use program::memory::Memory;
 use std::io::{BufRead, BufReader};
 

@@ -1,4 +1,6 @@
 // The reader: the text of a program in, its occurrences out.
+#![tactic(auto)]
+
 mod descent;
 pub mod fault;
 mod operators;

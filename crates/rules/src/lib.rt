@@ -1,5 +1,7 @@
 // The evaluation rules: values and work, the direct run and the vector run under a budget, and where they refuse.
 // The definitions stand in specs/; each function here carries a theorem on them.
+#![tactic(auto)]
+
 ghost use Rattle.rules.specs.Laws.{BatchLaw, DirectLaw, SameLaw, IdleLaw, MoreLaw};
 ghost use Rattle.rules.specs.Laws.{BatchTraceLaw, DirectTraceLaw, PlacesLaw, WorkLaw, CountLaw};
 ghost use Rattle.rules.specs.Meaning.{DivisionLaw, ListsLaw, JoinsLaw};

@@ -1,4 +1,6 @@
 // The machine of the direct run, defined in specs/; each function here carries a theorem on it.
+#![tactic(auto)]
+
 ghost use Rattle.running.specs.Example.{ExampleLaw};
 ghost use Rattle.running.specs.Laws.{RunningLaw, PaidLaw};
 

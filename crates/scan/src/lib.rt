@@ -1,4 +1,6 @@
 // Scan engines over any monoid, and segmented scans and reductions over any engine.
+#![tactic(auto)]
+
 ghost use Rattle.std.specs.Prelude.{◌≡◌, ℕ, ◌+◌, ◌*◌, ◌%◌, ◌^◌, ◌≤◌, length};
 ghost use Rattle.monoid.specs.Laws.{product};
 ghost use Rattle.scan.specs.Scans.{Scanned};

@@ -1,4 +1,6 @@
 // Values of every type as texts: read into cells, and printed from cells.
+#![tactic(auto)]
+
 pub mod bool_text;
 pub mod cells;
 pub mod fault;

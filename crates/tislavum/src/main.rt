@@ -1,4 +1,6 @@
 // The command line.
+#![tactic(auto)]
+
 use anyhow::anyhow;
 use reader::table::Table;
 use scan::sequential::Sequential;

@@ -1,4 +1,6 @@
 // The tokens of a program's text.
+#![tactic(auto)]
+
 mod byte;
 pub mod cutter;
 pub mod fault;

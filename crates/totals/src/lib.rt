@@ -1,4 +1,6 @@
 // Totals of rows, from text to text, by one segmented scan.
+#![tactic(auto)]
+
 ghost use Rattle.std.specs.Prelude.{◌≡◌, ◌+◌, ◌%◌, ◌^◌, map, length, IfOk, vec_len, sum, MatchResult};
 ghost use Rattle.monoid.specs.Ints.{wrapped_sum};
 ghost use Rattle.monoid.specs.Segments.{cut};

@@ -4,6 +4,8 @@
 //   occurrences TEXT   what a program does, in the order of evaluation, each with its place
 //   nested N           whether a program with N nested groups is read
 //   # TEXT             nothing
+#![tactic(auto)]
+
 use reader::table::Table;
 use std::io::{BufRead, BufReader};
 

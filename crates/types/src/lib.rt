@@ -1,3 +1,5 @@
 // The types of the language, each held once and named by its code.
+#![tactic(auto)]
+
 pub mod node;
 pub mod table;

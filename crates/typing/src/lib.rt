@@ -1,4 +1,6 @@
 // Checking programs.
+#![tactic(auto)]
+
 pub mod checker;
 pub mod elements;
 pub mod fault;

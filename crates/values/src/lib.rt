@@ -1,4 +1,6 @@
 // Values as texts: read and printed.
+#![tactic(auto)]
+
 pub mod fault;
 pub mod int_text;
 pub mod print;

@@ -1,4 +1,6 @@
 // Values of any type as cells or as vectors, and the way from one to the other.
+#![tactic(auto)]
+
 pub mod gather;
 mod length;
 pub mod span;

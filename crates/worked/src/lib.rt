@@ -1,4 +1,6 @@
 // Worked runs, from the texts of programs and inputs to what they come to.
+#![tactic(auto)]
+
 ghost use Rattle.worked.specs.Worked.{WorkedLaw};
 
 // Each row of the table stands: program, input, budget, value and work or refusal.

@@ -18,5 +18,5 @@ loop-j-preserved g c =
       omega (arith, sum_by_more (λ x. x) d j 0 c.loop-j-test.true, inv.0),
       below_more _ _
           (λ k l. let ne : k ≢ j = omega arith in get_or-set_other out j k _ unit ne ∙ inv.1 k l)
-          (get_or-set_same out j _ unit lt ∙ c.product-of.ensures ∙ ap (λ i. cond (eqb n 0) unit (get_or c.args.places.now (i + n) c.args.all).1) inv.0),
+          (get_or-set_same out j _ unit lt ∙ c.product_of.ensures ∙ ap (λ i. cond (eqb n 0) unit (get_or c.args.places.now (i + n) c.args.all).1) inv.0),
     )

@@ -13,16 +13,16 @@ pub loop-token-preserved : goal.loop-token-preserved
 loop-token-preserved c =
     let h = c.loop-token.invariant in
     let next = c.next-token.ensures in
-    let plain = sym c.if-is-stop.ensures in
+    let plain = sym c.if-is_stop.ensures in
     let on = next_on next plain in
-    let push = c.push-reserved.ensures in
+    let push = c.push_reserved.ensures in
     let count : c.len.result ≡ length (vec_items c.loop-token.out) = omega (arith, c.len.ensures, c.loop-token.out.ok.0) in
-    (grown _ _ _ _ _ _ _ h.0 c.run-end-at.ensures next plain count push.items, on.2, omega (arith, on.0, count, push.len, c.push-reserved.new.self.ok.0, c.len.ensures), push.capacity ∙ h.3, omega (arith, push.capacity, h.4))
+    (grown _ _ _ _ _ _ _ h.0 c.run_end-at.ensures next plain count push.items, on.2, omega (arith, on.0, count, push.len, c.push_reserved.new.self.ok.0, c.len.ensures), push.capacity ∙ h.3, omega (arith, push.capacity, h.4))
 
 pub loop-token-smaller : goal.loop-token-smaller
 loop-token-smaller c =
-    let on = next_on c.next-token.ensures (sym c.if-is-stop.ensures) in
-    omega (arith, on.1, on.2, c.run-end-at.ensures.from)
+    let on = next_on c.next-token.ensures (sym c.if-is_stop.ensures) in
+    omega (arith, on.1, on.2, c.run_end-at.ensures.from)
 
 pub returns-then-is-stop : goal.returns-then-is-stop
 returns-then-is-stop c =

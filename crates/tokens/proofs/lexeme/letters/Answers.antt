@@ -19,6 +19,6 @@ returns-in-Some-find-word c =
 
 pub returns-in-None : goal.returns-in-None
 returns-in-None c =
-    let run = c.run-end-end.ensures in
+    let run = c.run_end-end.ensures in
     let name = c.in-Some.ensures.bytes in
     (refl, said.letters c.requires.1 run (omega (arith, run_length run, name.0)) (named _ _ name.1 c.in-None.ensures.word))

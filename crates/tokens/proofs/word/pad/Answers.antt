@@ -4,5 +4,5 @@ use Rattle.tokens.proofs.word.pad.Goals as goal
 
 pub returns : goal.returns
 returns c =
-    let is = copied _ c.args.text.now c.copy-from-slice.ensures.after in
+    let is = copied _ c.args.text.now c.copy_from_slice.ensures.after in
     record { bytes = is; only = λ other all e. padded-apart other _ all c.requires.class (sym e ∙ is) }

@@ -5,4 +5,4 @@ pub loop-value-preserved : goal.loop-value-preserved
 loop-value-preserved c = more_spells _ c.requires _ _ _ c.loop-value.invariant _ c.in-Some.ensures
 
 pub returns : goal.returns
-returns c = reads_magnitude _ c.requires _ _ _ c.loop-value.invariant c.in-default.ensures
+returns c = reads_magnitude _ c.requires _ _ _ c.loop-value.invariant c.in_default.ensures

@@ -12,8 +12,8 @@ loop-x-preserved c =
     let inv = c.loop-x.invariant in
     let x = c.x-item.result in
     let more = sum_by_more (with_sign int_text) xs i x c.loop-x-test.true in
-    let here : length (int_text (get_or xs i x)) ≡ c.int-length.result = ap (λ y. length (int_text y)) (sym c.x-item.is) ∙ sym c.int-length.ensures.length in
-    (omega (arith, inv.0, more, here), omega (arith, inv.1, c.int-length.ensures.few))
+    let here : length (int_text (get_or xs i x)) ≡ c.int_length.result = ap (λ y. length (int_text y)) (sym c.x-item.is) ∙ sym c.int_length.ensures.length in
+    (omega (arith, inv.0, more, here), omega (arith, inv.1, c.int_length.ensures.few))
 
 pub returns : goal.returns
 returns c =

@@ -14,7 +14,7 @@ sign-is c =
 
 pub returns : goal.returns
 returns c = record {
-  end = ap (λ n. c.args.at + n + 1) c.int-length.ensures.length;
-  text = element_bytes c.args.out.now (int_text c.args.x) _ c.args.at _ _ c.write-int.ensures c.int-length.ensures.length c.requires
+  end = ap (λ n. c.args.at + n + 1) c.int_length.ensures.length;
+  text = element_bytes c.args.out.now (int_text c.args.x) _ c.args.at _ _ c.write_int.ensures c.int_length.ensures.length c.requires
       ∙ ap (λ b. take c.args.at c.args.out.now ++ (int_text c.args.x ++ (b ∷ []))) (sign-is c);
 }

@@ -11,4 +11,4 @@ returns-then-x-lt0 c =
     let z = c.args.x.value in
     let same : to_z width (of_z width z) ≡ z = to_z-of_z width z (fits c.args.x) in
     let below : lt_z z (pos 0) ≡ true = ap (λ y. lt_z y (pos 0)) (sym same) ∙ c.if-x-lt0.true in
-    negative_written z below _ _ c.requires (c.write-digits.ensures ∙ ap decimal (c.unsigned-abs-m.ensures.value ∙ ap nat_abs same))
+    negative_written z below _ _ c.requires (c.write_digits.ensures ∙ ap decimal (c.unsigned_abs-m.ensures.value ∙ ap nat_abs same))

@@ -18,8 +18,8 @@ pub loop-i-preserved : goal.loop-i-preserved
 loop-i-preserved c =
     let long : length c.loop-i.out ≡ length (list_text int_text c.args.xs.now) = c.loop-i.auto.out ∙ length-set c.args.out.now 0 91 ∙ c.requires in
     let fits = element-fits int_text _ _ _ _ c.loop-i.invariant _ c.loop-i-test.true c.index-xs-i.is long in
-    let within : c.write-element-at.result ≤ length c.write-element-at.new.out = omega (arith, fits, c.write-element-at.ensures.end, c.write-element-at.auto.out) in
-    element-written int_text _ _ _ _ c.loop-i.invariant _ c.loop-i-test.true c.index-xs-i.is _ _ _ refl within c.write-element-at.ensures.text
+    let within : c.write_element-at.result ≤ length c.write_element-at.new.out = omega (arith, fits, c.write_element-at.ensures.end, c.write_element-at.auto.out) in
+    element-written int_text _ _ _ _ c.loop-i.invariant _ c.loop-i-test.true c.index-xs-i.is _ _ _ refl within c.write_element-at.ensures.text
 
 pub returns : goal.returns
 returns c = all-written int_text _ _ _ _ c.loop-i.invariant c.loop-i-test.false (c.loop-i.auto.out ∙ length-set c.args.out.now 0 91 ∙ c.requires)

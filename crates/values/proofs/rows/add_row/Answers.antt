@@ -14,7 +14,7 @@ pub returns-then-byte-at-eq93 : goal.returns-then-byte-at-eq93
 returns-then-byte-at-eq93 c = row_empty _ _ (sym c.byte-at.ensures ∙ c.if-byte-at-ne91.false) (sym c.byte-at-2.ensures ∙ c.if-byte-at-eq93.true)
 
 pub loop-element-init : goal.loop-element-init
-loop-element-init c = row_begins _ _ (sym c.byte-at.ensures ∙ c.if-byte-at-ne91.false) (λ e. c.if-byte-at-eq93.false (c.byte-at-2.ensures ∙ e))
+loop-element-init c = row_begins _ _ (sym c.byte_at.ensures ∙ c.if-byte_at-ne91.false) (λ e. c.if-byte_at-eq93.false (c.byte-at-2.ensures ∙ e))
 
 pub returns-in-err-element : goal.returns-in-err-element
 returns-in-err-element c =
@@ -31,11 +31,11 @@ overflow-add-count c =
     omega (arith, count_few _ _ _ _ _ c.loop-element.invariant, c.loop-element.invariant.opened.within)
 
 pub returns-then-element : goal.returns-then-element
-returns-then-element c = row_closes _ _ _ _ _ _ c.loop-element.invariant _ _ c.if-element.true c.in-ok-element.ensures
+returns-then-element c = row_closes _ _ _ _ _ _ c.loop-element.invariant _ _ c.if-element.true c.in_ok-element.ensures
 
 pub loop-element-smaller : goal.loop-element-smaller
 loop-element-smaller c =
-    omega (arith, next_within _ _ _ _ _ _ c.loop-element.invariant _ _ c.in-ok-element.ensures, next_more _ _ _ _ _ _ c.loop-element.invariant _ _ c.in-ok-element.ensures)
+    omega (arith, next_within _ _ _ _ _ _ c.loop-element.invariant _ _ c.in_ok-element.ensures, next_more _ _ _ _ _ _ c.loop-element.invariant _ _ c.in_ok-element.ensures)
 
 pub loop-element-preserved : goal.loop-element-preserved
-loop-element-preserved c = row_opens _ _ _ _ _ _ c.loop-element.invariant _ _ c.if-element.false c.in-ok-element.ensures
+loop-element-preserved c = row_opens _ _ _ _ _ _ c.loop-element.invariant _ _ c.if-element.false c.in_ok-element.ensures

@@ -22,5 +22,5 @@ returns c = record {
   row = c.in-Ok.ensures.row;
   is = at_sign row_text _ _ _ _ c.in-Ok.ensures.is _ c.in-Some.ensures;
   added = c.in-Ok.ensures.added;
-  counted = c.in-ok-push.ensures.items ∙ ap (λ n. vec_items c.args.rows.now.lengths ++ (n ∷ [])) c.in-Ok.ensures.counted;
+  counted = c.in_ok-push.ensures.items ∙ ap (λ n. vec_items c.args.rows.now.lengths ++ (n ∷ [])) c.in-Ok.ensures.counted;
 }

@@ -13,7 +13,7 @@ pub returns-then-byte-at-eq93 : goal.returns-then-byte-at-eq93
 returns-then-byte-at-eq93 c = rows_empty _ _ _ c.requires.0 c.requires.1 (sym c.byte-at.ensures ∙ c.if-byte-at-ne91.false) (sym c.byte-at-2.ensures ∙ c.if-byte-at-eq93.true)
 
 pub loop-element-init : goal.loop-element-init
-loop-element-init c = rows-begin _ _ _ c.requires.0 c.requires.1 (sym c.byte-at.ensures ∙ c.if-byte-at-ne91.false) (λ e. c.if-byte-at-eq93.false (c.byte-at-2.ensures ∙ e))
+loop-element-init c = rows-begin _ _ _ c.requires.0 c.requires.1 (sym c.byte_at.ensures ∙ c.if-byte_at-ne91.false) (λ e. c.if-byte_at-eq93.false (c.byte-at-2.ensures ∙ e))
 
 pub returns-in-err-element : goal.returns-in-err-element
 returns-in-err-element c =
@@ -26,12 +26,12 @@ pub overflow-add-at : goal.overflow-add-at
 overflow-add-at c = omega (arith, rows-within _ _ _ _ _ _ c.loop-element.invariant _ _ c.in-ok-element.ensures)
 
 pub returns-then-element : goal.returns-then-element
-returns-then-element c = rows_close _ _ _ _ _ _ c.loop-element.invariant _ _ c.in-ok-element.ensures c.if-element.true
+returns-then-element c = rows_close _ _ _ _ _ _ c.loop-element.invariant _ _ c.in_ok-element.ensures c.if-element.true
 
 pub loop-element-smaller : goal.loop-element-smaller
 loop-element-smaller c =
-    let adds = c.in-ok-element.ensures in
+    let adds = c.in_ok-element.ensures in
     omega (arith, rows-within _ _ _ _ _ _ c.loop-element.invariant _ _ adds, rows_more _ _ _ _ _ _ c.loop-element.invariant _ _ adds)
 
 pub loop-element-preserved : goal.loop-element-preserved
-loop-element-preserved c = rows_open _ _ _ _ _ _ c.loop-element.invariant _ _ c.in-ok-element.ensures c.if-element.false
+loop-element-preserved c = rows_open _ _ _ _ _ _ c.loop-element.invariant _ _ c.in_ok-element.ensures c.if-element.false

@@ -11,7 +11,7 @@ returns-in-err-length c =
     (stopping_so (StopsAt rows_text s) (NoText rows_text s) (stops_whole rows_text s) _ c.in-err-length.ensures)
 
 pub returns-then-length-text : goal.returns-then-length-text
-returns-then-length-text c = more_follows rows_text _ _ _ c.in-ok-length.ensures.is c.if-length-text.true
+returns-then-length-text c = more_follows rows_text _ _ _ c.in_ok-length.ensures.is c.if-length-text.true
 
 pub returns : goal.returns
-returns c = whole_rows _ _ _ _ c.in-ok-length.ensures c.if-length-text.false
+returns c = whole_rows _ _ _ _ c.in_ok-length.ensures c.if-length-text.false

@@ -4,7 +4,7 @@ use Rattle.types.proofs.table.TypeTable.intern.Goals as goal
 
 pub returns-in-Some : goal.returns-in-Some
 returns-in-Some c =
-    node_found c.args.self.now c.args.node _ c.as-slice.ensures.value c.in-Some.code c.in-Some.ensures
+    node_found c.args.self.now c.args.node _ c.as_slice.ensures.value c.in-Some.code c.in-Some.ensures
 
 pub push-reserved-requires : goal.push-reserved-requires
 push-reserved-requires c = omega (arith, c.requires, sized c.args.self.now)
@@ -16,4 +16,4 @@ invariant-of-self c =
 
 pub returns : goal.returns
 returns c =
-    pushed-code c.args.self.now c.args.node _ c.as-slice.ensures.value c.in-default.ensures c.requires.within _ _ c.requires.count c.push-reserved.ensures.items _ c.len-code.ensures
+    pushed-code c.args.self.now c.args.node _ c.as_slice.ensures.value c.in_default.ensures c.requires.within _ _ c.requires.count c.push_reserved.ensures.items _ c.len-code.ensures
