@@ -4,15 +4,15 @@ use Rattle.plan.proofs.Gathers.{Left, room_here, added_here, passed_here, left-a
 use Rattle.plan.proofs.gathering.gather.Goals as goal
 use Rattle.plan.proofs.gathering.gather.Goals.{then-used, else-used}
 
-pub push-reserved-requires : goal.push-reserved-requires
-push-reserved-requires c =
+pub push_reserved-requires : goal.push_reserved-requires
+push_reserved-requires c =
     let h = room_here c.args.flags.now c.args.scope.now c.loop-index.index false (vec_items c.loop-index.frees) _ (vec_capacity c.args.frees.now) c.loop-index-test.true c.requires.within c.if-used.true c.loop-index.invariant.0 c.requires.room in
     omega (arith, h, c.loop-index.invariant.1, c.loop-index.frees.ok.0)
 
 pub loop-index-preserved : goal.loop-index-preserved
 loop-index-preserved c =
     elim c.if-used.branch [
-      | then-used w ↦ (ap (λ v. vec_items v ++ Left c.args.flags.now c.args.scope.now (c.loop-index.index + 1)) w.frees-is ∙ added_here c.args.flags.now c.args.scope.now c.loop-index.index false false (vec_items c.loop-index.frees) _ c.loop-index-test.true c.requires.within w.if-used.true w.push-reserved.ensures.items ∙ c.loop-index.invariant.0, ap vec_capacity w.frees-is ∙ w.push-reserved.ensures.capacity ∙ c.loop-index.invariant.1)
+      | then-used w ↦ (ap (λ v. vec_items v ++ Left c.args.flags.now c.args.scope.now (c.loop-index.index + 1)) w.frees-is ∙ added_here c.args.flags.now c.args.scope.now c.loop-index.index false false (vec_items c.loop-index.frees) _ c.loop-index-test.true c.requires.within w.if-used.true w.push_reserved.ensures.items ∙ c.loop-index.invariant.0, ap vec_capacity w.frees-is ∙ w.push_reserved.ensures.capacity ∙ c.loop-index.invariant.1)
       | else-used w ↦ (ap (λ v. vec_items v ++ Left c.args.flags.now c.args.scope.now (c.loop-index.index + 1)) w.frees-is ∙ ap (λ l. vec_items c.loop-index.frees ++ l) (passed_here c.args.flags.now c.args.scope.now c.loop-index.index false c.loop-index-test.true c.requires.within w.if-used.false) ∙ c.loop-index.invariant.0, ap vec_capacity w.frees-is ∙ c.loop-index.invariant.1)
     ]
 

@@ -4,4 +4,4 @@ use Rattle.plan.proofs.Gathers.{number_is}
 use Rattle.plan.proofs.word.number.Goals as goal
 
 pub returns : goal.returns
-returns c = same_int _ _ (number_is c.args.value c.cast-signed.result (omega arith) c.cast-signed.ensures c.new.ensures)
+returns c = same_int _ _ (number_is c.args.value c.cast_signed.result (omega arith) c.cast_signed.ensures c.new.ensures)

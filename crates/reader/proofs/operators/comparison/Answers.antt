@@ -8,5 +8,5 @@ returns-in-Same c = (same, c.in-Same.is)
 pub returns-in-Less : goal.returns-in-Less
 returns-in-Less c = (less, c.in-Less.is)
 
-pub returns-in-default : goal.returns-in-default
-returns-in-default c = no_comparison c.in-default.not-Same c.in-default.not-Less
+pub returns-in_default : goal.returns-in_default
+returns-in_default c = no_comparison c.in_default.not-Same c.in_default.not-Less

@@ -11,5 +11,5 @@ returns-in-Divide c = (divides, c.in-Divide.is)
 pub returns-in-Remainder : goal.returns-in-Remainder
 returns-in-Remainder c = (remains, c.in-Remainder.is)
 
-pub returns-in-default : goal.returns-in-default
-returns-in-default c = no_product c.in-default.not-Times c.in-default.not-Divide c.in-default.not-Remainder
+pub returns-in_default : goal.returns-in_default
+returns-in_default c = no_product c.in_default.not-Times c.in_default.not-Divide c.in_default.not-Remainder

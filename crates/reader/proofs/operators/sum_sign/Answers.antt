@@ -8,5 +8,5 @@ returns-in-Plus c = (adds, c.in-Plus.is)
 pub returns-in-Minus : goal.returns-in-Minus
 returns-in-Minus c = (subtracts, c.in-Minus.is)
 
-pub returns-in-default : goal.returns-in-default
-returns-in-default c = no_sum c.in-default.not-Plus c.in-default.not-Minus
+pub returns-in_default : goal.returns-in_default
+returns-in_default c = no_sum c.in_default.not-Plus c.in_default.not-Minus

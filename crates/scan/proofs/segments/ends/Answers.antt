@@ -3,8 +3,8 @@ use Rattle.std.proofs.lemmas.List.Sums.{sum_by_more}
 use Rattle.monoid.proofs.Segments.{upto}
 use Rattle.scan.proofs.segments.ends.Goals as goal
 
-pub overflow-add-at : goal.overflow-add-at
-overflow-add-at g c = omega (arith, upto c.args.lengths.now c.loop-j.j c.loop-j-test.true, c.loop-j.invariant.0)
+pub overflow_add-at : goal.overflow_add-at
+overflow_add-at g c = omega (arith, upto c.args.lengths.now c.loop-j.j c.loop-j-test.true, c.loop-j.invariant.0)
 
 pub loop-j-preserved : goal.loop-j-preserved
 loop-j-preserved g c =

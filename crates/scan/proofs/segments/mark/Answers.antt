@@ -21,8 +21,8 @@ loop-j-init g c =
     let all : length c.loop-i.places ≤ i = omega arith in
     (refl, sym (take_all i c.loop-i.places all) ∙ c.loop-i.invariant ∙ ap (map plain) (take_all i c.args.v.now c.loop-i-test.false))
 
-pub offset-bounds-v-at : goal.offset-bounds-v-at
-offset-bounds-v-at g c =
+pub offset_bounds-v-at : goal.offset_bounds-v-at
+offset_bounds-v-at g c =
     let most = upto c.args.lengths.now c.loop-j.j c.loop-j-test.true in
     let lt : c.loop-j.at < length c.args.v.now = omega (arith, c.loop-j.invariant.0) in
     search rules
@@ -30,8 +30,8 @@ offset-bounds-v-at g c =
 pub bounds-v-at : goal.bounds-v-at
 bounds-v-at g c = omega (arith, upto c.args.lengths.now c.loop-j.j c.loop-j-test.true, c.loop-j.invariant.0)
 
-pub offset-bounds-places-at : goal.offset-bounds-places-at
-offset-bounds-places-at g c =
+pub offset_bounds-places-at : goal.offset_bounds-places-at
+offset_bounds-places-at g c =
     let most = upto c.args.lengths.now c.loop-j.j c.loop-j-test.true in
     let lt : c.loop-j.at < length c.loop-j.places = omega (arith, c.loop-j.invariant.0) in
     search rules
@@ -39,8 +39,8 @@ offset-bounds-places-at g c =
 pub bounds-places-at : goal.bounds-places-at
 bounds-places-at g c = omega (arith, upto c.args.lengths.now c.loop-j.j c.loop-j-test.true, c.loop-j.invariant.0)
 
-pub overflow-add-at : goal.overflow-add-at
-overflow-add-at g c = omega (arith, upto c.args.lengths.now c.loop-j.j c.loop-j-test.true, c.loop-j.invariant.0)
+pub overflow_add-at : goal.overflow_add-at
+overflow_add-at g c = omega (arith, upto c.args.lengths.now c.loop-j.j c.loop-j-test.true, c.loop-j.invariant.0)
 
 pub loop-j-preserved : goal.loop-j-preserved
 loop-j-preserved g c =

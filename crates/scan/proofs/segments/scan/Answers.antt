@@ -9,16 +9,16 @@ use Rattle.scan.proofs.segments.scan.Goals as goal
 use Rattle.scan.proofs.segments.scan.Goals.{then-n-gt0, else-n-gt0}
 
 -- the place lies within v, whose elements are of the same size
-pub offset-bounds-out-at : goal.offset-bounds-out-at
-offset-bounds-out-at g c =
+pub offset_bounds-out-at : goal.offset_bounds-out-at
+offset_bounds-out-at g c =
     let most = upto c.args.lengths.now c.loop-j.j c.loop-j-test.true in
-    scaled_Fits c.loop-j.at (length c.args.v.now) _ (omega (arith, c.loop-j.invariant.0)) c.well-formed.1.0.1
+    scaled_Fits c.loop-j.at (length c.args.v.now) _ (omega (arith, c.loop-j.invariant.0)) c.well_formed.1.0.1
 
 pub bounds-out-at : goal.bounds-out-at
 bounds-out-at g c = omega (arith, upto c.args.lengths.now c.loop-j.j c.loop-j-test.true, c.loop-j.invariant.0)
 
-pub overflow-add-at : goal.overflow-add-at
-overflow-add-at g c = omega (arith, upto c.args.lengths.now c.loop-j.j c.loop-j-test.true, c.loop-j.invariant.0)
+pub overflow_add-at : goal.overflow_add-at
+overflow_add-at g c = omega (arith, upto c.args.lengths.now c.loop-j.j c.loop-j-test.true, c.loop-j.invariant.0)
 
 pub loop-j-preserved : goal.loop-j-preserved
 loop-j-preserved g c =

@@ -24,10 +24,10 @@ loop-token-smaller c =
     let on = next_on c.next-token.ensures (sym c.if-is_stop.ensures) in
     omega (arith, on.1, on.2, c.run_end-at.ensures.from)
 
-pub returns-then-is-stop : goal.returns-then-is-stop
-returns-then-is-stop c =
+pub returns-then-is_stop : goal.returns-then-is_stop
+returns-then-is_stop c =
     let h = c.loop-token.invariant in
-    let push = c.push-reserved.ensures in
+    let push = c.push_reserved.ensures in
     let count : c.len.result ≡ length (vec_items c.loop-token.out) = omega (arith, c.len.ensures, c.loop-token.out.ok.0) in
-    let cuts : Cuts c.args.text.now (vec_items c.push-reserved.new.self) = closed _ _ _ _ _ _ _ h.0 c.run-end-at.ensures c.next-token.ensures (sym c.if-is-stop.ensures) count push.items in
+    let cuts : Cuts c.args.text.now (vec_items c.push_reserved.new.self) = closed _ _ _ _ _ _ _ h.0 c.run_end-at.ensures c.next-token.ensures (sym c.if-is_stop.ensures) count push.items in
     record { cuts = cuts; only = λ ts d. cuts_same _ _ _ d cuts; some = goes_some cuts; few = omega (arith, goes_few cuts (omega arith)); stopped = goes_stopped cuts; unstopped = goes_unstopped cuts; places = goes_places cuts; capacity = push.capacity ∙ h.3 }

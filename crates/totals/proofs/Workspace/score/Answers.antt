@@ -6,10 +6,10 @@ use Rattle.monoid.proofs.Segments.{length_cut}
 use Rattle.totals.proofs.Workspace.score.Goals as goal
 
 -- there are as many totals as lengths, and a length takes eight bytes
-pub print-ints-requires : goal.print-ints-requires
-print-ints-requires g c =
+pub print_ints-requires : goal.print_ints-requires
+print_ints-requires g c =
     let ints = c.args.ints.now in
     let lengths = c.args.lengths.now in
-    let same : length c.as-slice.result.now ≡ length lengths =
-    ap length (c.as-slice.ensures.value ∙ c.total-operations.ensures.sums) ∙ length-map (cut ints lengths) wrapped_sum ∙ length_cut ints lengths in
-    omega (arith, same, c.well-formed.1.1.1.0.1)
+    let same : length c.as_slice.result.now ≡ length lengths =
+    ap length (c.as_slice.ensures.value ∙ c.total-operations.ensures.sums) ∙ length-map (cut ints lengths) wrapped_sum ∙ length_cut ints lengths in
+    omega (arith, same, c.well_formed.1.1.1.0.1)

@@ -4,4 +4,4 @@ use Rattle.typing.proofs.flags.note_use.Goals as goal
 
 pub returns-else-at-len : goal.returns-else-at-len
 returns-else-at-len c =
-    record { items = used_past c.args.used.depth c.args.used.index c.saturating-sub-inside.result (vec_items c.args.flags.now) (search rules) (search rules) (search rules); capacity = refl }
+    record { items = used_past c.args.used.depth c.args.used.index c.saturating_sub-inside.result (vec_items c.args.flags.now) (search rules) (search rules) (search rules); capacity = refl }

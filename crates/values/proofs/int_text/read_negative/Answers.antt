@@ -9,8 +9,8 @@ returns-then-m-eq0 c = negative_stops _ c.requires _ _ c.read_magnitude-m.ensure
 pub returns : goal.returns
 returns c = negative_reads _ c.requires _ _ c.read_magnitude-m.ensures _ c.if-m-eq0.false (omega (arith, ints, c.new.ensures, c.read_magnitude-m.ensures.front.small, c.if-m-eq0.false))
 
-pub slice-bounds-read-magnitude-count : goal.slice-bounds-read-magnitude-count
-slice-bounds-read-magnitude-count c = some_byte _ c.requires
+pub slice_bounds-read_magnitude-count : goal.slice_bounds-read_magnitude-count
+slice_bounds-read_magnitude-count c = some_byte _ c.requires
 
-pub slice-bounds-read-magnitude-start : goal.slice-bounds-read-magnitude-start
-slice-bounds-read-magnitude-start c = some_byte _ c.requires
+pub slice_bounds-read_magnitude-start : goal.slice_bounds-read_magnitude-start
+slice_bounds-read_magnitude-start c = some_byte _ c.requires

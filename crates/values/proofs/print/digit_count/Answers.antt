@@ -6,8 +6,8 @@ use Rattle.values.proofs.print.digit_count.Goals as goal
 pub loop-rest-init : goal.loop-rest-init
 loop-rest-init c = (c.ranges.m.fits, omega arith)
 
-pub overflow-add-count : goal.overflow-add-count
-overflow-add-count c =
+pub overflow_add-count : goal.overflow_add-count
+overflow_add-count c =
     let m = c.args.m in
     let inv = c.loop-rest.invariant in
     let few : length (decimal m) ≤ 20 = length-decimal-le 20 m (omega arith) (omega (arith, c.ranges.m.fits)) c.ranges.m.fits in

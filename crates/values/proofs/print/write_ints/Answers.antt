@@ -9,8 +9,8 @@ returns-then-count-eq0 c = empty-written int_text _ _ c.if-count-eq0.true c.requ
 pub loop-i-init : goal.loop-i-init
 loop-i-init c = begin-written int_text _ _ c.if-count-eq0.false c.requires
 
-pub write-element-at-requires : goal.write-element-at-requires
-write-element-at-requires c =
+pub write_element-at-requires : goal.write_element-at-requires
+write_element-at-requires c =
     let long : length c.loop-i.out ≡ length (list_text int_text c.args.xs.now) = c.loop-i.auto.out ∙ length-set c.args.out.now 0 91 ∙ c.requires in
     element-fits int_text _ _ _ _ c.loop-i.invariant _ c.loop-i-test.true c.index-xs-i.is long
 

@@ -14,8 +14,8 @@ returns-in-Err c =
     let s = c.args.text.now in
     subst (Stopping (StopsElement row_text s c.args.at)) (sym c.behind.ensures) (behind_stops row_text s c.args.at _ c.in-Err.ensures)
 
-pub returns-in-default : goal.returns-in-default
-returns-in-default c = no_sign row_text _ _ _ _ c.in-Ok.ensures.is c.in-default.ensures.0 c.in-default.ensures.1
+pub returns-in_default : goal.returns-in_default
+returns-in_default c = no_sign row_text _ _ _ _ c.in-Ok.ensures.is c.in_default.ensures.0 c.in_default.ensures.1
 
 pub returns : goal.returns
 returns c = record {

@@ -6,24 +6,24 @@ use Rattle.values.proofs.Lists.{not_opened}
 use Rattle.values.proofs.Rowing.{row_separate, rows_empty, rows-begin, rows_open, rows_close, rows-within, rows_more, stops_list, stopping_so, hands_on}
 use Rattle.values.proofs.rows.add_rows.Goals as goal
 
-pub returns-then-byte-at-ne91 : goal.returns-then-byte-at-ne91
-returns-then-byte-at-ne91 c = not_opened row_text _ (λ e. c.if-byte-at-ne91.true (c.byte-at.ensures ∙ e))
+pub returns-then-byte_at-ne91 : goal.returns-then-byte_at-ne91
+returns-then-byte_at-ne91 c = not_opened row_text _ (λ e. c.if-byte_at-ne91.true (c.byte_at.ensures ∙ e))
 
-pub returns-then-byte-at-eq93 : goal.returns-then-byte-at-eq93
-returns-then-byte-at-eq93 c = rows_empty _ _ _ c.requires.0 c.requires.1 (sym c.byte-at.ensures ∙ c.if-byte-at-ne91.false) (sym c.byte-at-2.ensures ∙ c.if-byte-at-eq93.true)
+pub returns-then-byte_at-eq93 : goal.returns-then-byte_at-eq93
+returns-then-byte_at-eq93 c = rows_empty _ _ _ c.requires.0 c.requires.1 (sym c.byte_at.ensures ∙ c.if-byte_at-ne91.false) (sym c.byte_at-2.ensures ∙ c.if-byte_at-eq93.true)
 
 pub loop-element-init : goal.loop-element-init
-loop-element-init c = rows-begin _ _ _ c.requires.0 c.requires.1 (sym c.byte_at.ensures ∙ c.if-byte_at-ne91.false) (λ e. c.if-byte_at-eq93.false (c.byte-at-2.ensures ∙ e))
+loop-element-init c = rows-begin _ _ _ c.requires.0 c.requires.1 (sym c.byte_at.ensures ∙ c.if-byte_at-ne91.false) (λ e. c.if-byte_at-eq93.false (c.byte_at-2.ensures ∙ e))
 
-pub returns-in-err-element : goal.returns-in-err-element
-returns-in-err-element c =
+pub returns-in_err-element : goal.returns-in_err-element
+returns-in_err-element c =
     let s = c.args.text.now in
     let at = c.loop-element.at in
-    hands_on _ _ (Stopping (StopsAt rows_text s)) _ c.from-residual.ensures.1
-    (stopping_so (StopsElement row_text s at) (StopsAt rows_text s) (stops_list row_text s _ at c.loop-element.invariant.opened row_separate) _ c.in-err-element.ensures)
+    hands_on _ _ (Stopping (StopsAt rows_text s)) _ c.from_residual.ensures.1
+    (stopping_so (StopsElement row_text s at) (StopsAt rows_text s) (stops_list row_text s _ at c.loop-element.invariant.opened row_separate) _ c.in_err-element.ensures)
 
-pub overflow-add-at : goal.overflow-add-at
-overflow-add-at c = omega (arith, rows-within _ _ _ _ _ _ c.loop-element.invariant _ _ c.in-ok-element.ensures)
+pub overflow_add-at : goal.overflow_add-at
+overflow_add-at c = omega (arith, rows-within _ _ _ _ _ _ c.loop-element.invariant _ _ c.in_ok-element.ensures)
 
 pub returns-then-element : goal.returns-then-element
 returns-then-element c = rows_close _ _ _ _ _ _ c.loop-element.invariant _ _ c.in_ok-element.ensures c.if-element.true

@@ -12,14 +12,14 @@ returns-then-left-extent c =
         arith,
         extent-within c.args.spans.now c.loop-span.span-index
             c.loop-span-test.true,
-        c.saturating-sub-extent.ensures,
+        c.saturating_sub-extent.ensures,
       ))),
     )
 
 pub loop-span-preserved : goal.loop-span-preserved
 loop-span-preserved c =
     let so_far : c.loop-span.left + sum_by extent (take c.loop-span.span-index c.args.spans.now) ≡ c.args.room = c.loop-span.invariant in
-    omega (arith, extent_more c.args.spans.now c.loop-span.span-index c.loop-span-test.true, c.saturating-sub-extent.ensures)
+    omega (arith, extent_more c.args.spans.now c.loop-span.span-index c.loop-span-test.true, c.saturating_sub-extent.ensures)
 
 pub returns : goal.returns
 returns c =

@@ -7,13 +7,13 @@ pub returns-then-count-gt-MAX-VECTORS : goal.returns-then-count-gt-MAX-VECTORS
 returns-then-count-gt-MAX-VECTORS c = many-vectors (type_of c.args.types.now c.args.code) c.args.ints.now c.args.layout _
     c.if-count-gt-MAX-VECTORS.true
 
-pub returns-then-not-has-room : goal.returns-then-not-has-room
-returns-then-not-has-room c =
+pub returns-then-not-has_room : goal.returns-then-not-has_room
+returns-then-not-has_room c =
     little_room (type_of c.args.types.now c.args.code) c.args.ints.now c.args.layout _
-    (λ h. let e = c.if-not-has-room.ensures.1 h in let z : ◌≡◌ {A = ℕ} 0 1 = cc in absurd (omega arith))
+    (λ h. let e = c.if-not-has_room.ensures.1 h in let z : ◌≡◌ {A = ℕ} 0 1 = cc in absurd (omega arith))
 
 pub returns : goal.returns
 returns c =
-    joins (type_of c.args.types.now c.args.code) c.args.ints.now c.args.layout _ c.gather-value.result
-    c.gather-value.new.spans _
-    c.if-count-gt-MAX-VECTORS.false (c.if-not-has-room.ensures.0 refl) c.gather-value.ensures
+    joins (type_of c.args.types.now c.args.code) c.args.ints.now c.args.layout _ c.gather_value.result
+    c.gather_value.new.spans _
+    c.if-count-gt-MAX-VECTORS.false (c.if-not-has_room.ensures.0 refl) c.gather_value.ensures

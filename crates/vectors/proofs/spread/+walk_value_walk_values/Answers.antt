@@ -6,67 +6,67 @@ use Rattle.vectors.proofs.Walking.{at_type, stops_at_type, int_walks, bool_walks
 use Rattle.vectors.proofs.Walking.{walked_none, walked_more, walked_stops, walked_all}
 use Rattle.vectors.proofs.spread.+walk_value_walk_values.Goals as goal
 
-pub walk-value-returns-in-Int : goal.walk-value-returns-in-Int
-walk-value-returns-in-Int t c =
+pub walk_value-returns-in-Int : goal.walk_value-returns-in-Int
+walk_value-returns-in-Int t c =
     at_type _ int _ _ c.args.walk _ _ _ c.in-Int.ensures (int_walks _ _ c.args.walk _ _ _ c.step.ensures)
 
-pub walk-value-returns-in-Bool : goal.walk-value-returns-in-Bool
-walk-value-returns-in-Bool t c =
+pub walk_value-returns-in-Bool : goal.walk_value-returns-in-Bool
+walk_value-returns-in-Bool t c =
     at_type _ bool _ _ c.args.walk _ _ _ c.in-Bool.ensures (bool_walks _ _ c.args.walk _ _ _ c.step-in-Bool.ensures)
 
-pub walk-value-returns-in-err-half : goal.walk-value-returns-in-err-half
-walk-value-returns-in-err-half t c =
+pub walk_value-returns-in_err-half : goal.walk_value-returns-in_err-half
+walk_value-returns-in_err-half t c =
     let a = type_of c.args.types.now c.in-Pair.a in
     let b = type_of c.args.types.now c.in-Pair.b in
-    stops_at_type _ (pair a b) _ _ c.args.walk _ _ _ c.in-Pair.ensures.2 c.from-residual.ensures
-    (half_stops a b _ _ c.args.walk _ _ c.in-err-half.ensures)
+    stops_at_type _ (pair a b) _ _ c.args.walk _ _ _ c.in-Pair.ensures.2 c.from_residual.ensures
+    (half_stops a b _ _ c.args.walk _ _ c.in_err-half.ensures)
 
-pub walk-value-returns-in-ok-half : goal.walk-value-returns-in-ok-half
-walk-value-returns-in-ok-half t c =
+pub walk_value-returns-in_ok-half : goal.walk_value-returns-in_ok-half
+walk_value-returns-in_ok-half t c =
     let a = type_of c.args.types.now c.in-Pair.a in
     let b = type_of c.args.types.now c.in-Pair.b in
     at_type _ (pair a b) _ _ c.args.walk _ _ _ c.in-Pair.ensures.2
     (pair_walks a b _ c.past.result _ c.args.walk _
     (subst (λ n. Past c.args.wanted n c.past.result) c.parts.ensures c.past.ensures)
-    c.in-ok-half.half _ _ _ c.in-ok-half.ensures c.walk-value-in-Pair.ensures)
+    c.in_ok-half.half _ _ _ c.in_ok-half.ensures c.walk_value-in-Pair.ensures)
 
-pub walk-value-returns-in-err-count : goal.walk-value-returns-in-err-count
-walk-value-returns-in-err-count t c =
+pub walk_value-returns-in_err-count : goal.walk_value-returns-in_err-count
+walk_value-returns-in_err-count t c =
     let a = type_of c.args.types.now c.in-List.element in
-    stops_at_type _ (list a) _ _ c.args.walk _ _ _ c.in-List.ensures.1 c.from-residual-in-err-count.ensures
-    (no_length a _ _ c.args.walk _ c.in-err-count.ensures)
+    stops_at_type _ (list a) _ _ c.args.walk _ _ _ c.in-List.ensures.1 c.from_residual-in_err-count.ensures
+    (no_length a _ _ c.args.walk _ c.in_err-count.ensures)
 
-pub walk-value-returns-in-err-inside : goal.walk-value-returns-in-err-inside
-walk-value-returns-in-err-inside t c =
+pub walk_value-returns-in_err-inside : goal.walk_value-returns-in_err-inside
+walk_value-returns-in_err-inside t c =
     let a = type_of c.args.types.now c.in-List.element in
-    stops_at_type _ (list a) _ _ c.args.walk _ _ _ c.in-List.ensures.1 c.from-residual-in-err-inside.ensures
-    (list_stops a _ _ c.args.walk _ _ c.in-err-inside.ensures)
+    stops_at_type _ (list a) _ _ c.args.walk _ _ _ c.in-List.ensures.1 c.from_residual-in_err-inside.ensures
+    (list_stops a _ _ c.args.walk _ _ c.in_err-inside.ensures)
 
-pub walk-value-returns-in-ok-inside : goal.walk-value-returns-in-ok-inside
-walk-value-returns-in-ok-inside t c =
+pub walk_value-returns-in_ok-inside : goal.walk_value-returns-in_ok-inside
+walk_value-returns-in_ok-inside t c =
     let a = type_of c.args.types.now c.in-List.element in
     at_type _ (list a) _ _ c.args.walk _ _ _ c.in-List.ensures.1
-    (list_walks a _ _ c.args.walk _ c.in-ok-count.count c.past-in-List.result c.in-ok-inside.inside _ _ _
-    c.past-in-List.ensures c.in-ok-count.ensures c.in-ok-inside.ensures c.walk-values.ensures)
+    (list_walks a _ _ c.args.walk _ c.in_ok-count.count c.past-in-List.result c.in_ok-inside.inside _ _ _
+    c.past-in-List.ensures c.in_ok-count.ensures c.in_ok-inside.ensures c.walk_values.ensures)
 
-pub walk-values-loop-init : goal.walk-values-loop-init
-walk-values-loop-init t c = walked_none (type_of c.args.types.now c.args.code) _ _ _ c.args.start _
+pub walk_values-loop-init : goal.walk_values-loop-init
+walk_values-loop-init t c = walked_none (type_of c.args.types.now c.args.code) _ _ _ c.args.start _
 
-pub walk-values-returns-in-err-walk : goal.walk-values-returns-in-err-walk
-walk-values-returns-in-err-walk t c =
+pub walk_values-returns-in_err-walk : goal.walk_values-returns-in_err-walk
+walk_values-returns-in_err-walk t c =
     let a = type_of c.args.types.now c.args.code in
     subst (λ r. WalksAll a c.args.count c.args.wanted c.args.cells.now c.args.start c.args.out.now r
-    c.walk-value.new.out) (sym c.from-residual.ensures)
+    c.walk_value.new.out) (sym c.from_residual.ensures)
     (walked_stops a _ c.loop.counter _ _ c.args.start _ c.loop.walk _ c.loop.invariant c.loop-test.true _
-    c.in-err-walk.ensures)
+    c.in_err-walk.ensures)
 
-pub walk-values-loop-preserved : goal.walk-values-loop-preserved
-walk-values-loop-preserved t c =
+pub walk_values-loop-preserved : goal.walk_values-loop-preserved
+walk_values-loop-preserved t c =
     walked_more (type_of c.args.types.now c.args.code) _ c.loop.counter _ _ c.args.start _ c.loop.walk _ c.loop.invariant
     c.loop-test.true
-    c.in-ok-walk.walk _ c.in-ok-walk.ensures
+    c.in_ok-walk.walk _ c.in_ok-walk.ensures
 
-pub walk-values-returns : goal.walk-values-returns
-walk-values-returns t c =
+pub walk_values-returns : goal.walk_values-returns
+walk_values-returns t c =
     walked_all (type_of c.args.types.now c.args.code) _ c.loop.counter _ _ c.args.start _ c.loop.walk _ c.loop.invariant
     c.loop-test.false

@@ -11,14 +11,14 @@ returns-then-out-cells c = too_little (type_of c.args.types.now c.args.code) c.a
 pub loop-k-init : goal.loop-k-init
 loop-k-init c = (refl, none_written (type_of c.args.types.now c.args.code) _ _ _)
 
-pub returns-in-err-walk : goal.returns-in-err-walk
-returns-in-err-walk c =
+pub returns-in_err-walk : goal.returns-in_err-walk
+returns-in_err-walk c =
     let t = type_of c.args.types.now c.args.code in
     let few : counted t ≤ 8 = omega arith in
     let more : c.loop-k.k < counted t = omega arith in
-    subst (λ r. Spreads t c.args.cells.now c.args.out.now r c.walk-value.new.out) (sym c.from-residual.ensures)
+    subst (λ r. Spreads t c.args.cells.now c.args.out.now r c.walk_value.new.out) (sym c.from_residual.ensures)
     (spread_stops t c.loop-k.k _ _ c.loop-k.start c.loop-k.spans c.loop-k.out c.loop-k.invariant.1 more few c.if-out-cells.false _
-    c.in-err-walk.ensures)
+    c.in_err-walk.ensures)
 
 pub loop-k-preserved : goal.loop-k-preserved
 loop-k-preserved c =
@@ -26,7 +26,7 @@ loop-k-preserved c =
     let more : c.loop-k.k < counted t = omega arith in (
       length-set c.loop-k.spans c.loop-k.k _ ∙ c.loop-k.invariant.0,
       spread_more t c.loop-k.k _ _ c.loop-k.start c.loop-k.spans c.loop-k.out c.loop-k.invariant.1 more c.loop-k.invariant.0
-          c.in-ok-walk.walk _ c.in-ok-walk.ensures,
+          c.in_ok-walk.walk _ c.in_ok-walk.ensures,
     )
 
 pub returns : goal.returns

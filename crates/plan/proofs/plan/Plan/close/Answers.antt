@@ -5,4 +5,4 @@ use Rattle.plan.proofs.plan.Plan.close.Goals as goal
 
 pub returns : goal.returns
 unfolding held
-returns c = at_forks (held c.args.self.now) (popped (vec_items c.args.self.now.forks) _ (omega (arith, c.saturating-sub.ensures, c.len-n.ensures, c.args.self.now.forks.ok.0)) c.truncate.ensures.items)
+returns c = at_forks (held c.args.self.now) (popped (vec_items c.args.self.now.forks) _ (omega (arith, c.saturating_sub.ensures, c.len-n.ensures, c.args.self.now.forks.ok.0)) c.truncate.ensures.items)

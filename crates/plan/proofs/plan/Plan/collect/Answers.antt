@@ -19,10 +19,10 @@ gather-requires c =
     let least : c.min-first.result ≡ min c.args.start (length (vec_items p.uses)) = omega (arith, c.min-first.ensures, c.len.ensures, p.uses.ok.0) in
     let deep : c.len-2.result ≡ length (vec_items p.scope) = omega (arith, c.len-2.ensures, p.scope.ok.0) in
     record {
-      within = all-within (vec_items p.uses) _ (vec_items p.scope) _ _ c.args.start _ _ c.as-slice.ensures.value least deep c.fill.ensures.items
-          c.replay.ensures.items (vec_items p.frees) _ _ c.as-slice-2.ensures.value c.as-slice-3.ensures.value;
-      room = frees_fit (vec_items p.uses) _ (vec_items p.scope) _ _ c.args.start _ _ c.as-slice.ensures.value least deep c.fill.ensures.items
-          c.replay.ensures.items (vec_items p.frees) _ _ c.as-slice-2.ensures.value c.as-slice-3.ensures.value 2000 _ c.requires.room p.room;
+      within = all-within (vec_items p.uses) _ (vec_items p.scope) _ _ c.args.start _ _ c.as_slice.ensures.value least deep c.fill.ensures.items
+          c.replay.ensures.items (vec_items p.frees) _ _ c.as_slice-2.ensures.value c.as_slice-3.ensures.value;
+      room = frees_fit (vec_items p.uses) _ (vec_items p.scope) _ _ c.args.start _ _ c.as_slice.ensures.value least deep c.fill.ensures.items
+          c.replay.ensures.items (vec_items p.frees) _ _ c.as_slice-2.ensures.value c.as_slice-3.ensures.value 2000 _ c.requires.room p.room;
     }
 
 pub returns : goal.returns
@@ -32,7 +32,7 @@ returns c =
     let least : c.min-first.result ≡ min c.args.start (length (vec_items p.uses)) = omega (arith, c.min-first.ensures, c.len.ensures, p.uses.ok.0) in
     let deep : c.len-2.result ≡ length (vec_items p.scope) = omega (arith, c.len-2.ensures, p.scope.ok.0) in
     let items : vec_items c.gather.new.frees ≡ vec_items p.frees ++ since c.args.start (held p) =
-    frees_are (vec_items p.uses) _ (vec_items p.scope) _ _ c.args.start _ _ c.as-slice.ensures.value least deep c.fill.ensures.items
-    c.replay.ensures.items (vec_items p.frees) _ _ c.as-slice-2.ensures.value c.as-slice-3.ensures.value c.gather.ensures.items in
+    frees_are (vec_items p.uses) _ (vec_items p.scope) _ _ c.args.start _ _ c.as_slice.ensures.value least deep c.fill.ensures.items
+    c.replay.ensures.items (vec_items p.frees) _ _ c.as_slice-2.ensures.value c.as_slice-3.ensures.value c.gather.ensures.items in
     let to : c.len-to.result ≡ length (vec_items p.frees ++ since c.args.start (held p)) = omega (arith, c.len-to.ensures, c.gather.new.frees.ok.0, ap length items) in
     record { span = same_span (omega (arith, c.len-from.ensures, p.frees.ok.0)) to; holds = at_frees (held p) items }

@@ -5,8 +5,8 @@ use Rattle.plan.specs.Holding.{held}
 use Rattle.plan.proofs.Known.{few, many, frees, frees_left, has}
 use Rattle.plan.proofs.plan.Plan.fill.Goals as goal
 
-pub add-all-requires : goal.add-all-requires
-add-all-requires c =
+pub add_all-requires : goal.add_all-requires
+add_all-requires c =
     let p = c.args.program.now in
     let eo = c.occurrences.ensures in let en = c.notes.ensures.are in let et = c.types.ensures in
     record {
@@ -22,7 +22,7 @@ returns c =
     let p = c.args.program.now in
     let eo = c.occurrences.ensures in let en = c.notes.ensures.are in let et = c.types.ensures in
     record {
-      plans = has p _ _ _ eo en et (held c.add-all.new.self) c.add-all.ensures.holds;
-      entries = c.add-all.ensures.few;
-      frees = frees_left p _ _ _ eo en et (held c.add-all.new.self) c.add-all.ensures.holds;
+      plans = has p _ _ _ eo en et (held c.add_all.new.self) c.add_all.ensures.holds;
+      entries = c.add_all.ensures.few;
+      frees = frees_left p _ _ _ eo en et (held c.add_all.new.self) c.add_all.ensures.holds;
     }

@@ -5,4 +5,4 @@ use Rattle.plan.proofs.plan.Plan.leave.Goals as goal
 
 pub returns : goal.returns
 unfolding held
-returns c = at_scope (held c.args.self.now) (popped (vec_items c.args.self.now.scope) _ (omega (arith, c.saturating-sub.ensures, c.len-n.ensures, c.args.self.now.scope.ok.0)) c.truncate.ensures.items)
+returns c = at_scope (held c.args.self.now) (popped (vec_items c.args.self.now.scope) _ (omega (arith, c.saturating_sub.ensures, c.len-n.ensures, c.args.self.now.scope.ok.0)) c.truncate.ensures.items)

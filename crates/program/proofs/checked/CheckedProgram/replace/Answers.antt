@@ -3,12 +3,12 @@ use Rattle.reader.proofs.Ways.{fails}
 use Rattle.program.proofs.Stages.{swapped_sound, swapped_loaded, refused_as}
 use Rattle.program.proofs.checked.CheckedProgram.replace.Goals as goal
 
-pub returns-in-err-judge : goal.returns-in-err-judge
-returns-in-err-judge c =
-    fails _ _ _ c.from-residual-in-err-judge.ensures.1 (refused_as c.in-err-judge.field-0.0 c.in-ok-fill.ensures c.in-err-judge.ensures, refl)
+pub returns-in_err-judge : goal.returns-in_err-judge
+returns-in_err-judge c =
+    fails _ _ _ c.from_residual-in_err-judge.ensures.1 (refused_as c.in_err-judge.field-0.0 c.in_ok-fill.ensures c.in_err-judge.ensures, refl)
 
-pub invariant-of-self : goal.invariant-of-self
-invariant-of-self c = (swapped_sound c.swap.ensures.x-after c.swap-2.ensures.x-after c.in-ok-judge.ensures.0, tt)
+pub invariant_of-self : goal.invariant_of-self
+invariant_of-self c = (swapped_sound c.swap.ensures.x-after c.swap-2.ensures.x-after c.in_ok-judge.ensures.0, tt)
 
 pub returns : goal.returns
-returns c = swapped_loaded _ c.swap.ensures.x-after c.swap-2.ensures.x-after c.in-ok-fill.ensures c.in-ok-judge.ensures.1
+returns c = swapped_loaded _ c.swap.ensures.x-after c.swap-2.ensures.x-after c.in_ok-fill.ensures c.in_ok-judge.ensures.1

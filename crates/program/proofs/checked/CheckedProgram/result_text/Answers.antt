@@ -4,4 +4,4 @@ use Rattle.program.proofs.Texts.{whole_spelled}
 use Rattle.program.proofs.checked.CheckedProgram.result_text.Goals as goal
 
 pub returns : goal.returns
-returns c p h = whole_spelled c.in-ok-spell.ensures c.new-text.ensures.bytes (ap (λ t. type_of t c.result.result) c.types.ensures ∙ c.result.ensures.is p h)
+returns c p h = whole_spelled c.in_ok-spell.ensures c.new-text.ensures.bytes (ap (λ t. type_of t c.result.result) c.types.ensures ∙ c.result.ensures.is p h)

@@ -2,4 +2,4 @@ use Rattle.program.proofs.Stages.{loaded}
 use Rattle.program.proofs.memory.Memory.load.Goals as goal
 
 pub returns : goal.returns
-returns c = loaded _ c.in-ok-read.field-0 _ c.in-ok-read.ensures c.check.ensures
+returns c = loaded _ c.in_ok-read.field-0 _ c.in_ok-read.ensures c.check.ensures

@@ -3,8 +3,8 @@ use Rattle.types.specs.Entries.{types_of}
 use Rattle.types.proofs.Sound.{Sound, begun, first_types}
 use Rattle.types.proofs.table.TypeTable.clear.Goals as goal
 
-pub invariant-of-self : goal.invariant-of-self
-invariant-of-self c =
+pub invariant_of-self : goal.invariant_of-self
+invariant_of-self c =
     let s = subst Sound (sym c.begin.ensures.items) begun in
     (s.starts, (s.below, (s.counts, (s.once, (omega arith, tt)))))
 

@@ -6,12 +6,12 @@ pub returns-in-Some : goal.returns-in-Some
 returns-in-Some c =
     node_found c.args.self.now c.args.node _ c.as_slice.ensures.value c.in-Some.code c.in-Some.ensures
 
-pub push-reserved-requires : goal.push-reserved-requires
-push-reserved-requires c = omega (arith, c.requires, sized c.args.self.now)
+pub push_reserved-requires : goal.push_reserved-requires
+push_reserved-requires c = omega (arith, c.requires, sized c.args.self.now)
 
-pub invariant-of-self : goal.invariant-of-self
-invariant-of-self c =
-    let s = pushed_sound c.args.self.now c.args.node _ c.as-slice.ensures.value c.in-default.ensures c.requires.within _ _ c.requires.count c.push-reserved.ensures.items in
+pub invariant_of-self : goal.invariant_of-self
+invariant_of-self c =
+    let s = pushed_sound c.args.self.now c.args.node _ c.as_slice.ensures.value c.in_default.ensures c.requires.within _ _ c.requires.count c.push_reserved.ensures.items in
     (s.starts, (s.below, (s.counts, (s.once, (omega arith, tt)))))
 
 pub returns : goal.returns

@@ -3,10 +3,10 @@ use Rattle.types.specs.Entries.{types_of}
 use Rattle.types.proofs.Sound.{Sound, begun, first_types}
 use Rattle.types.proofs.table.TypeTable.new.Goals as goal
 
-pub invariant-of-result : goal.invariant-of-result
-invariant-of-result c =
+pub invariant_of-result : goal.invariant_of-result
+invariant_of-result c =
     let s = subst Sound (sym c.begin.ensures.items) begun in
-    (s.starts, (s.below, (s.counts, (s.once, (omega (arith, c.in-ok-entries.ensures.made), tt)))))
+    (s.starts, (s.below, (s.counts, (s.once, (omega (arith, c.in_ok-entries.ensures.made), tt)))))
 
 pub returns : goal.returns
 returns c = ap types_of c.begin.ensures.items ∙ first_types

@@ -10,29 +10,29 @@ use Rattle.typing.proofs.checker.Checker.element_type.Goals as goal
 pub returns-then-base-codes : goal.returns-then-base-codes
 unfolding held
 returns-then-base-codes c =
-    ap (λ l. decide c.args.place (list_rule (reverse (take c.args.n (map (type_at (known c.args.self.now)) (reverse l)))))) (sym c.as-slice-codes.ensures.value) ∙
-    bracket_none (known c.args.self.now) c.as-slice-codes.result.now c.args.n c.saturating-sub-base.result c.args.place c.saturating-sub-base.ensures c.if-base-codes.true
+    ap (λ l. decide c.args.place (list_rule (reverse (take c.args.n (map (type_at (known c.args.self.now)) (reverse l)))))) (sym c.as_slice-codes.ensures.value) ∙
+    bracket_none (known c.args.self.now) c.as_slice-codes.result.now c.args.n c.saturating_sub-base.result c.args.place c.saturating_sub-base.ensures c.if-base-codes.true
 
-pub one-type-requires : goal.one-type-requires
-one-type-requires c =
-    record { within = (under_slice (length (known c.args.self.now)) c.saturating-sub-base.result (length c.as-slice-codes.result.now - c.saturating-sub-base.result) _ c.as-slice-codes.result.now c.args.self.now.codes.1 c.as-slice-codes.ensures.value, subst (λ l. get_or l c.saturating-sub-base.result 0 < length (known c.args.self.now)) (sym c.as-slice-codes.ensures.value) (c.args.self.now.codes.1 c.saturating-sub-base.result)) }
+pub one_type-requires : goal.one_type-requires
+one_type-requires c =
+    record { within = (under_slice (length (known c.args.self.now)) c.saturating_sub-base.result (length c.as_slice-codes.result.now - c.saturating_sub-base.result) _ c.as_slice-codes.result.now c.args.self.now.codes.1 c.as_slice-codes.ensures.value, subst (λ l. get_or l c.saturating_sub-base.result 0 < length (known c.args.self.now)) (sym c.as_slice-codes.ensures.value) (c.args.self.now.codes.1 c.saturating_sub-base.result)) }
 
-pub returns-then-not-one-type : goal.returns-then-not-one-type
+pub returns-then-not-one_type : goal.returns-then-not-one_type
 unfolding held
-returns-then-not-one-type c =
-    ap (λ l. decide c.args.place (list_rule (reverse (take c.args.n (map (type_at (known c.args.self.now)) (reverse l)))))) (sym c.as-slice-codes.ensures.value) ∙
-    bracket_unfit (known c.args.self.now) c.as-slice-codes.result.now c.args.n c.saturating-sub-base.result c.args.place c.saturating-sub-base.ensures c.if-base-codes.false c.if-not-one-type.ensures
+returns-then-not-one_type c =
+    ap (λ l. decide c.args.place (list_rule (reverse (take c.args.n (map (type_at (known c.args.self.now)) (reverse l)))))) (sym c.as_slice-codes.ensures.value) ∙
+    bracket_unfit (known c.args.self.now) c.as_slice-codes.result.now c.args.n c.saturating_sub-base.result c.args.place c.saturating_sub-base.ensures c.if-base-codes.false c.if-not-one_type.ensures
 
 pub returns-then-codes-base-gt-MAX-PARTS : goal.returns-then-codes-base-gt-MAX-PARTS
 unfolding held
 returns-then-codes-base-gt-MAX-PARTS c =
-    ap (λ l. decide c.args.place (list_rule (reverse (take c.args.n (map (type_at (known c.args.self.now)) (reverse l)))))) (sym c.as-slice-codes.ensures.value) ∙
-    bracket_long (known c.args.self.now) c.as-slice-codes.result.now c.args.n c.saturating-sub-base.result c.args.place c.saturating-sub-base.ensures c.if-base-codes.false c.if-not-one-type.ensures c.if-codes-base-gt-MAX-PARTS.true
+    ap (λ l. decide c.args.place (list_rule (reverse (take c.args.n (map (type_at (known c.args.self.now)) (reverse l)))))) (sym c.as_slice-codes.ensures.value) ∙
+    bracket_long (known c.args.self.now) c.as_slice-codes.result.now c.args.n c.saturating_sub-base.result c.args.place c.saturating_sub-base.ensures c.if-base-codes.false c.if-not-one_type.ensures c.if-codes-base-gt-MAX-PARTS.true
 
 pub returns : goal.returns
 unfolding held
 returns c = (
-  subst (λ l. get_or l c.saturating-sub-base.result 0 < length (known c.args.self.now)) (sym c.as-slice-codes.ensures.value) (c.args.self.now.codes.1 c.saturating-sub-base.result),
-  ap (λ l. decide c.args.place (list_rule (reverse (take c.args.n (map (type_at (known c.args.self.now)) (reverse l)))))) (sym c.as-slice-codes.ensures.value) ∙
-      bracket_fits (known c.args.self.now) c.as-slice-codes.result.now c.args.n c.saturating-sub-base.result c.args.place c.saturating-sub-base.ensures c.if-base-codes.false c.if-not-one-type.ensures c.if-codes-base-gt-MAX-PARTS.false,
+  subst (λ l. get_or l c.saturating_sub-base.result 0 < length (known c.args.self.now)) (sym c.as_slice-codes.ensures.value) (c.args.self.now.codes.1 c.saturating_sub-base.result),
+  ap (λ l. decide c.args.place (list_rule (reverse (take c.args.n (map (type_at (known c.args.self.now)) (reverse l)))))) (sym c.as_slice-codes.ensures.value) ∙
+      bracket_fits (known c.args.self.now) c.as_slice-codes.result.now c.args.n c.saturating_sub-base.result c.args.place c.saturating_sub-base.ensures c.if-base-codes.false c.if-not-one_type.ensures c.if-codes-base-gt-MAX-PARTS.false,
 )

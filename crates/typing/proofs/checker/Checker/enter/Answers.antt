@@ -6,14 +6,14 @@ use Rattle.typing.proofs.Held.{enter_held, leave_held, scope_long, forks_long, n
 use Rattle.typing.proofs.Forking.{open_held, close_held, filter_held, use_held}
 use Rattle.typing.proofs.checker.Checker.enter.Goals as goal
 
-pub push-reserved-requires : goal.push-reserved-requires
-push-reserved-requires c = omega (arith, c.requires.room, scope_long c.args.self.now, c.args.self.now.rooms)
+pub push_reserved-requires : goal.push_reserved-requires
+push_reserved-requires c = omega (arith, c.requires.room, scope_long c.args.self.now, c.args.self.now.rooms)
 
-pub invariant-of-self : goal.invariant-of-self
-invariant-of-self c =
+pub invariant_of-self : goal.invariant_of-self
+invariant_of-self c =
     let s = c.args.self.now in
-    ((under_push_map (λ b. b.code) _ _ _ _ s.codes.0 c.requires.within c.push-reserved.ensures.items, s.codes.1, s.codes.2), (s.logged, (s.few, ((omega (arith, s.rooms.0), s.rooms.1, s.rooms.2), (s.others, tt)))))
+    ((under_push_map (λ b. b.code) _ _ _ _ s.codes.0 c.requires.within c.push_reserved.ensures.items, s.codes.1, s.codes.2), (s.logged, (s.few, ((omega (arith, s.rooms.0), s.rooms.1, s.rooms.2), (s.others, tt)))))
 
 pub returns : goal.returns
 unfolding held
-returns c = record { holds = enter_held c.args.self.now _ _ c.push-reserved.ensures.items; types = refl }
+returns c = record { holds = enter_held c.args.self.now _ _ c.push_reserved.ensures.items; types = refl }

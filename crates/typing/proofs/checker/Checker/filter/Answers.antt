@@ -6,14 +6,14 @@ use Rattle.typing.proofs.Held.{enter_held, leave_held, scope_long, forks_long, n
 use Rattle.typing.proofs.Forking.{open_held, close_held, filter_held, use_held}
 use Rattle.typing.proofs.checker.Checker.filter.Goals as goal
 
-pub invariant-of-self : goal.invariant-of-self
-invariant-of-self c =
+pub invariant_of-self : goal.invariant_of-self
+invariant_of-self c =
     let s = c.args.self.now in
     let a = under-take-map (λ f. f.start) _ _ _ _ s.logged.0 c.truncate.ensures.items in
     let b = under-take-map (λ f. f.depth) _ _ _ _ s.logged.1 c.truncate.ensures.items in
-    (s.codes, ((under_push_map (λ f. f.start) _ _ _ _ a (omega (arith, c.last-fork-f.ensures.start)) c.push-reserved.ensures.items, under_push_map (λ f. f.depth) _ _ _ _ b c.last-fork-f.ensures.depth c.push-reserved.ensures.items), (s.few, ((s.rooms.0, s.rooms.1, omega (arith, s.rooms.2)), (s.others, tt)))))
+    (s.codes, ((under_push_map (λ f. f.start) _ _ _ _ a (omega (arith, c.last_fork-f.ensures.start)) c.push_reserved.ensures.items, under_push_map (λ f. f.depth) _ _ _ _ b c.last_fork-f.ensures.depth c.push_reserved.ensures.items), (s.few, ((s.rooms.0, s.rooms.1, omega (arith, s.rooms.2)), (s.others, tt)))))
 
 pub returns : goal.returns
 unfolding held
 returns c =
-    record { holds = filter_held c.args.self.now _ _ _ _ (search rules) c.truncate.ensures.items c.push-reserved.ensures.items _ (ap (λ u. record { filtered = true; used = u.used }) c.last-fork-f.ensures.is); types = refl }
+    record { holds = filter_held c.args.self.now _ _ _ _ (search rules) c.truncate.ensures.items c.push_reserved.ensures.items _ (ap (λ u. record { filtered = true; used = u.used }) c.last_fork-f.ensures.is); types = refl }

@@ -12,4 +12,4 @@ returns-then-not-alike c =
 pub returns : goal.returns
 returns c =
     let size = c.parts-size.ensures.is ∙ ap counted c.top-a.ensures.is in
-    if_join_ok (held c.args.self.now) _ c.args.place _ (sym c.top-b.ensures.is ∙ c.if-not-alike.ensures ∙ c.top-a.ensures.is) (omega (arith, size, c.parts-used-used.ensures.is)) (c.weigh.ensures.holds ∙ ap (weighing _) (c.mark.ensures.holds ∙ ap mark (c.close.ensures.holds ∙ ap joined (c.cut.ensures.holds ∙ ap (popped 1) c.parts-used-used.ensures.holds))))
+    if_join_ok (held c.args.self.now) _ c.args.place _ (sym c.top-b.ensures.is ∙ c.if-not-alike.ensures ∙ c.top-a.ensures.is) (omega (arith, size, c.parts_used-used.ensures.is)) (c.weigh.ensures.holds ∙ ap (weighing _) (c.mark.ensures.holds ∙ ap mark (c.close.ensures.holds ∙ ap joined (c.cut.ensures.holds ∙ ap (popped 1) c.parts_used-used.ensures.holds))))

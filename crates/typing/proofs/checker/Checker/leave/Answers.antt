@@ -6,8 +6,8 @@ use Rattle.typing.proofs.Held.{enter_held, leave_held, scope_long, forks_long, n
 use Rattle.typing.proofs.Forking.{open_held, close_held, filter_held, use_held}
 use Rattle.typing.proofs.checker.Checker.leave.Goals as goal
 
-pub invariant-of-self : goal.invariant-of-self
-invariant-of-self c =
+pub invariant_of-self : goal.invariant_of-self
+invariant_of-self c =
     let s = c.args.self.now in
     ((under-take-map (λ b. b.code) _ _ _ _ s.codes.0 c.truncate.ensures.items, s.codes.1, s.codes.2), (s.logged, (s.few, ((omega (arith, s.rooms.0), s.rooms.1, s.rooms.2), (s.others, tt)))))
 

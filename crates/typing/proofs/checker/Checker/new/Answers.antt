@@ -5,4 +5,4 @@ use Rattle.typing.proofs.checker.Checker.new.Goals as goal
 pub returns : goal.returns
 unfolding held
 returns c =
-    empty-held _ _ _ _ _ _ c.in-ok-scope.ensures.items c.in-ok-stack.ensures.items c.in-ok-forks.ensures.items c.in-ok-notes.ensures.items
+    empty-held _ _ _ _ _ _ c.in_ok-scope.ensures.items c.in_ok-stack.ensures.items c.in_ok-forks.ensures.items c.in_ok-notes.ensures.items

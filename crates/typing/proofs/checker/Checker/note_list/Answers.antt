@@ -8,18 +8,18 @@ pub list-code-requires : goal.list-code-requires
 list-code-requires c =
     record { room = omega (arith, c.requires.room, notes_long c.args.self.now, c.args.self.now.few); within = c.requires.within }
 
-pub push-reserved-requires : goal.push-reserved-requires
-push-reserved-requires c =
+pub push_reserved-requires : goal.push_reserved-requires
+push_reserved-requires c =
     omega (arith, c.requires.room, notes_long c.args.self.now, c.args.self.now.others)
 
-pub invariant-of-self : goal.invariant-of-self
-invariant-of-self c =
+pub invariant_of-self : goal.invariant_of-self
+invariant_of-self c =
     let s = c.args.self.now in
     let i = c.list-code.ensures in
-    ((under_more _ _ _ s.codes.0 i.longer, under_more _ _ _ s.codes.1 i.longer, under_push_map (λ n. n.code) _ _ _ _ (under_more _ _ _ s.codes.2 i.longer) i.within c.push-reserved.ensures.items), (s.logged, ((omega (arith, s.few.0), omega (arith, s.few.1, i.little)), (s.rooms, ((s.others.0, s.others.1, omega (arith, s.others.2)), tt)))))
+    ((under_more _ _ _ s.codes.0 i.longer, under_more _ _ _ s.codes.1 i.longer, under_push_map (λ n. n.code) _ _ _ _ (under_more _ _ _ s.codes.2 i.longer) i.within c.push_reserved.ensures.items), (s.logged, ((omega (arith, s.few.0), omega (arith, s.few.1, i.little)), (s.rooms, ((s.others.0, s.others.1, omega (arith, s.others.2)), tt)))))
 
 pub returns : goal.returns
 unfolding held
 returns c =
     let i = c.list-code.ensures in
-    record { holds = intern_note c.args.self.now _ _ _ i _ c.push-reserved.ensures.items; within = i.within; is = i.is }
+    record { holds = intern_note c.args.self.now _ _ _ i _ c.push_reserved.ensures.items; within = i.within; is = i.is }

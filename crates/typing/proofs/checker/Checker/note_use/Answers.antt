@@ -6,19 +6,19 @@ use Rattle.typing.proofs.Held.{enter_held, leave_held, scope_long, forks_long, n
 use Rattle.typing.proofs.Forking.{open_held, close_held, filter_held, use_held}
 use Rattle.typing.proofs.checker.Checker.note_use.Goals as goal
 
-pub push-reserved-requires : goal.push-reserved-requires
-push-reserved-requires c = omega (arith, c.requires.room, notes_long c.args.self.now, c.args.self.now.others)
+pub push_reserved-requires : goal.push_reserved-requires
+push_reserved-requires c = omega (arith, c.requires.room, notes_long c.args.self.now, c.args.self.now.others)
 
-pub push-reserved-requires-2 : goal.push-reserved-requires-2
-push-reserved-requires-2 c =
+pub push_reserved-requires-2 : goal.push_reserved-requires-2
+push_reserved-requires-2 c =
     omega (arith, c.requires.room, notes_long c.args.self.now, c.args.self.now.others, c.args.self.now.few)
 
-pub invariant-of-self : goal.invariant-of-self
-invariant-of-self c =
+pub invariant_of-self : goal.invariant_of-self
+invariant_of-self c =
     let s = c.args.self.now in
-    ((s.codes.0, s.codes.1, under_push_map (λ n. n.code) _ _ _ _ s.codes.2 c.requires.within c.push-reserved.ensures.items), ((under_more _ _ _ s.logged.0 (omega arith), s.logged.1), ((omega (arith, s.few.0), omega (arith, s.few.1)), (s.rooms, ((omega (arith, s.others.0), s.others.1, omega (arith, s.others.2)), tt)))))
+    ((s.codes.0, s.codes.1, under_push_map (λ n. n.code) _ _ _ _ s.codes.2 c.requires.within c.push_reserved.ensures.items), ((under_more _ _ _ s.logged.0 (omega arith), s.logged.1), ((omega (arith, s.few.0), omega (arith, s.few.1)), (s.rooms, ((omega (arith, s.others.0), s.others.1, omega (arith, s.others.2)), tt)))))
 
 pub returns : goal.returns
 unfolding held
 returns c =
-    record { holds = use_held c.args.self.now _ _ _ _ c.push-reserved-2.ensures.items c.push-reserved.ensures.items (search rules); types = refl }
+    record { holds = use_held c.args.self.now _ _ _ _ c.push_reserved-2.ensures.items c.push_reserved.ensures.items (search rules); types = refl }

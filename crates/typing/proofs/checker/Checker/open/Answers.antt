@@ -6,15 +6,15 @@ use Rattle.typing.proofs.Held.{enter_held, leave_held, scope_long, forks_long, n
 use Rattle.typing.proofs.Forking.{open_held, close_held, filter_held, use_held}
 use Rattle.typing.proofs.checker.Checker.open.Goals as goal
 
-pub push-reserved-requires : goal.push-reserved-requires
-push-reserved-requires c = omega (arith, c.requires.room, forks_long c.args.self.now, c.args.self.now.rooms)
+pub push_reserved-requires : goal.push_reserved-requires
+push_reserved-requires c = omega (arith, c.requires.room, forks_long c.args.self.now, c.args.self.now.rooms)
 
-pub invariant-of-self : goal.invariant-of-self
-invariant-of-self c =
+pub invariant_of-self : goal.invariant_of-self
+invariant_of-self c =
     let s = c.args.self.now in
-    (s.codes, ((under_push_map (λ f. f.start) _ _ _ _ s.logged.0 (search rules) c.push-reserved.ensures.items, under_push_map (λ f. f.depth) _ _ _ _ s.logged.1 (omega (arith, c.requires.few, scope_long s)) c.push-reserved.ensures.items), (s.few, ((s.rooms.0, s.rooms.1, omega (arith, s.rooms.2)), (s.others, tt)))))
+    (s.codes, ((under_push_map (λ f. f.start) _ _ _ _ s.logged.0 (search rules) c.push_reserved.ensures.items, under_push_map (λ f. f.depth) _ _ _ _ s.logged.1 (omega (arith, c.requires.few, scope_long s)) c.push_reserved.ensures.items), (s.few, ((s.rooms.0, s.rooms.1, omega (arith, s.rooms.2)), (s.others, tt)))))
 
 pub returns : goal.returns
 unfolding held
 returns c =
-    record { holds = open_held c.args.self.now _ _ _ (search rules) (search rules) c.push-reserved.ensures.items; types = refl }
+    record { holds = open_held c.args.self.now _ _ _ (search rules) (search rules) c.push_reserved.ensures.items; types = refl }

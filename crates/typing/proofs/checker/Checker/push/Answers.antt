@@ -4,16 +4,16 @@ use Rattle.typing.proofs.Lists.{under_push}
 use Rattle.typing.proofs.Held.{push_held, stack_long}
 use Rattle.typing.proofs.checker.Checker.push.Goals as goal
 
-pub push-reserved-requires : goal.push-reserved-requires
+pub push_reserved-requires : goal.push_reserved-requires
 unfolding held
-push-reserved-requires c =
+push_reserved-requires c =
     omega (arith, c.requires.room, stack_long c.args.self.now, c.args.self.now.rooms)
 
-pub invariant-of-self : goal.invariant-of-self
-invariant-of-self c =
+pub invariant_of-self : goal.invariant_of-self
+invariant_of-self c =
     let s = c.args.self.now in
-    ((s.codes.0, under_push _ _ _ _ s.codes.1 c.requires.within c.push-reserved.ensures.items, s.codes.2), (s.logged, (s.few, ((s.rooms.0, omega (arith, s.rooms.1), s.rooms.2), (s.others, tt)))))
+    ((s.codes.0, under_push _ _ _ _ s.codes.1 c.requires.within c.push_reserved.ensures.items, s.codes.2), (s.logged, (s.few, ((s.rooms.0, omega (arith, s.rooms.1), s.rooms.2), (s.others, tt)))))
 
 pub returns : goal.returns
 unfolding held
-returns c = record { holds = push_held c.args.self.now _ _ c.push-reserved.ensures.items; types = refl }
+returns c = record { holds = push_held c.args.self.now _ _ c.push_reserved.ensures.items; types = refl }

@@ -2,9 +2,9 @@ use Rattle.std.proofs.Common.{refl, arith, rules}
 use Rattle.typing.specs.Holding.{held}
 use Rattle.typing.proofs.checker.Checker.weigh.Goals as goal
 
-pub overflow-add-self : goal.overflow-add-self
+pub overflow_add-self : goal.overflow_add-self
 unfolding held
-overflow-add-self c = search rules
+overflow_add-self c = search rules
 
 pub returns : goal.returns
 unfolding held
