@@ -9,8 +9,8 @@ returns-in-Err c = no_element int_text _ _ _ c.in-Err.ensures
 pub returns-in_default : goal.returns-in_default
 returns-in_default c = no_sign int_text _ _ _ _ c.in-Ok.ensures c.in_default.ensures.0 c.in_default.ensures.1
 
-pub returns-in_ok-push : goal.returns-in_ok-push
-returns-in_ok-push c = record {
+pub returns-in_ok-push-in-Ok : goal.returns-in_ok-push-in-Ok
+returns-in_ok-push-in-Ok c = record {
   value = c.in-Ok.read.value;
   is = at_sign int_text _ _ _ _ c.in-Ok.ensures _ c.in-Some.ensures;
   added = search rules;

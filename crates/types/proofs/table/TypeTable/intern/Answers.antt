@@ -12,7 +12,7 @@ push_reserved-requires c = omega (arith, c.requires, sized c.args.self.now)
 pub invariant_of-self : goal.invariant_of-self
 invariant_of-self c =
     let s = pushed_sound c.args.self.now c.args.node _ c.as_slice.ensures.value c.in_default.ensures c.requires.within _ _ c.requires.count c.push_reserved.ensures.items in
-    (s.starts, (s.below, (s.counts, (s.once, (omega arith, tt)))))
+    record { starts = s.starts; below = s.below; counts = s.counts; once = s.once; room = omega arith }
 
 pub returns : goal.returns
 returns c =

@@ -6,7 +6,7 @@ use Rattle.types.proofs.table.TypeTable.new.Goals as goal
 pub invariant_of-result : goal.invariant_of-result
 invariant_of-result c =
     let s = subst Sound (sym c.begin.ensures.items) begun in
-    (s.starts, (s.below, (s.counts, (s.once, (omega (arith, c.in_ok-entries.ensures.made), tt)))))
+    record { starts = s.starts; below = s.below; counts = s.counts; once = s.once; room = omega (arith, c.in_ok-entries.ensures.capacity) }
 
 pub returns : goal.returns
 returns c = ap types_of c.begin.ensures.items ∙ first_types
