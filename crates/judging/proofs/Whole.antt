@@ -18,7 +18,7 @@ use Rattle.lang.specs.Written.{Written, written}
 use Rattle.lang.specs.Elaborate.{Typed, elaborate}
 use Rattle.lang.specs.Check.{Checked, header, at_result, weighed, heaviest, check}
 use Rattle.lang.specs.Check.{declared as declared-as}
-use Rattle.lang.specs.Phrases.{a_program}
+use Rattle.lang.specs.Phrases.{Program, a_program}
 use Rattle.lang.proofs.Sound.{Holds}
 use Rattle.lang.proofs.Derived.{derived}
 use Rattle.judging.specs.Notes.{notes}

@@ -3,9 +3,9 @@ use Rattle.types.specs.Table.{type_of}
 use Rattle.vectors.proofs.Rooms.{many-vectors, little_room, joins}
 use Rattle.vectors.proofs.gather.to_cells.Goals as goal
 
-pub returns-then-count-gt-MAX-VECTORS : goal.returns-then-count-gt-MAX-VECTORS
-returns-then-count-gt-MAX-VECTORS c = many-vectors (type_of c.args.types.now c.args.code) c.args.ints.now c.args.layout _
-    c.if-count-gt-MAX-VECTORS.true
+pub returns-then-count-gt-MAX_VECTORS : goal.returns-then-count-gt-MAX_VECTORS
+returns-then-count-gt-MAX_VECTORS c = many-vectors (type_of c.args.types.now c.args.code) c.args.ints.now c.args.layout _
+    c.if-count-gt-MAX_VECTORS.true
 
 pub returns-then-not-has_room : goal.returns-then-not-has_room
 returns-then-not-has_room c =
@@ -16,4 +16,4 @@ pub returns : goal.returns
 returns c =
     joins (type_of c.args.types.now c.args.code) c.args.ints.now c.args.layout _ c.gather_value.result
     c.gather_value.new.spans _
-    c.if-count-gt-MAX-VECTORS.false (c.if-not-has_room.ensures.0 refl) c.gather_value.ensures
+    c.if-count-gt-MAX_VECTORS.false (c.if-not-has_room.ensures.0 refl) c.gather_value.ensures

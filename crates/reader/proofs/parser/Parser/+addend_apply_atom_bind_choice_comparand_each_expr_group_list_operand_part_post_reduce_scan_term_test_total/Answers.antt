@@ -367,14 +367,14 @@ test-pass-place-requires t c = (ready_on c.requires (read_on (test_way last c.re
 pub test-comparand-requires : goal.test-comparand-requires
 test-comparand-requires t c = let w = (compare (read_on (test_way last c.requires) (free_compared last (ended tests)) c.in_ok-total.ensures) (ended tests) c.in-Some.ensures.0 (sym c.peek.ensures ∙ c.in-Some.ensures.1) c.pass-place.ensures.took) in (falls 7 6 t w (omega arith) (omega arith) c.decreases, ready_on c.requires w)
 
-pub test-returns-in_err-comparand : goal.test-returns-in_err-comparand
-test-returns-in_err-comparand t c = fails _ _ _ c.from_residual-in_err-comparand.ensures.1 (halts (compare (read_on (test_way last c.requires) (free_compared last (ended tests)) c.in_ok-total.ensures) (ended tests) c.in-Some.ensures.0 (sym c.peek.ensures ∙ c.in-Some.ensures.1) c.pass-place.ensures.took) c.in_err-comparand.ensures (λ γ s free. stops_on (compare (read_on (test_way γ c.requires) (free_compared γ free) c.in_ok-total.ensures) free c.in-Some.ensures.0 (sym c.peek.ensures ∙ c.in-Some.ensures.1) c.pass-place.ensures.took) (free_total γ free) c.in_err-comparand.ensures s))
+pub test-returns-in_err-comparand-in-Some : goal.test-returns-in_err-comparand-in-Some
+test-returns-in_err-comparand-in-Some t c = fails _ _ _ c.from_residual-in_err-comparand-in-Some.ensures.1 (halts (compare (read_on (test_way last c.requires) (free_compared last (ended tests)) c.in_ok-total.ensures) (ended tests) c.in-Some.ensures.0 (sym c.peek.ensures ∙ c.in-Some.ensures.1) c.pass-place.ensures.took) c.in_err-comparand-in-Some.ensures (λ γ s free. stops_on (compare (read_on (test_way γ c.requires) (free_compared γ free) c.in_ok-total.ensures) free c.in-Some.ensures.0 (sym c.peek.ensures ∙ c.in-Some.ensures.1) c.pass-place.ensures.took) (free_total γ free) c.in_err-comparand-in-Some.ensures s))
 
 pub test-push-requires : goal.test-push-requires
-test-push-requires t c = room c.requires (read_on (compare (read_on (test_way last c.requires) (free_compared last (ended tests)) c.in_ok-total.ensures) (ended tests) c.in-Some.ensures.0 (sym c.peek.ensures ∙ c.in-Some.ensures.1) c.pass-place.ensures.took) (free_total last (ended tests)) c.in_ok-comparand.ensures) (omega arith)
+test-push-requires t c = room c.requires (read_on (compare (read_on (test_way last c.requires) (free_compared last (ended tests)) c.in_ok-total.ensures) (ended tests) c.in-Some.ensures.0 (sym c.peek.ensures ∙ c.in-Some.ensures.1) c.pass-place.ensures.took) (free_total last (ended tests)) c.in_ok-comparand-in-Some.ensures) (omega arith)
 
-pub test-returns-in_ok-comparand : goal.test-returns-in_ok-comparand
-test-returns-in_ok-comparand t c = compare_read c.requires c.in_ok-total.ensures c.in-Some.ensures.0 (sym c.peek.ensures ∙ c.in-Some.ensures.1) c.pass-place.ensures.took c.pass-place.ensures.place c.in_ok-comparand.ensures c.push.ensures
+pub test-returns-in_ok-comparand-in-Some : goal.test-returns-in_ok-comparand-in-Some
+test-returns-in_ok-comparand-in-Some t c = compare_read c.requires c.in_ok-total.ensures c.in-Some.ensures.0 (sym c.peek.ensures ∙ c.in-Some.ensures.1) c.pass-place.ensures.took c.pass-place.ensures.place c.in_ok-comparand-in-Some.ensures c.push.ensures
 
 pub test-returns-in-None : goal.test-returns-in-None
 test-returns-in-None t c = alone_read c.requires c.in_ok-total.ensures (λ o j x. c.in-None.ensures o j (c.peek.ensures ∙ x))

@@ -4,8 +4,8 @@ use Rattle.reader.proofs.Ways.{fails}
 use Rattle.reader.proofs.Exact.{same-table, no_table, too_long}
 use Rattle.reader.proofs.table.Table.read.Goals as goal
 
-pub returns-then-text-gt-MAX-BYTES : goal.returns-then-text-gt-MAX-BYTES
-returns-then-text-gt-MAX-BYTES c = record { answers = c.if-text-gt-MAX-BYTES.true; exact = λ os h. too_long c.if-text-gt-MAX-BYTES.true h; few = tt }
+pub returns-then-text-gt-MAX_BYTES : goal.returns-then-text-gt-MAX_BYTES
+returns-then-text-gt-MAX_BYTES c = record { answers = c.if-text-gt-MAX_BYTES.true; exact = λ os h. too_long c.if-text-gt-MAX_BYTES.true h; few = tt }
 
 pub returns-in_err-parse : goal.returns-in_err-parse
 returns-in_err-parse c =

@@ -23,16 +23,16 @@ returns-then-not-one_type c =
     ap (λ l. decide c.args.place (list_rule (reverse (take c.args.n (map (type_at (known c.args.self.now)) (reverse l)))))) (sym c.as_slice-codes.ensures.value) ∙
     bracket_unfit (known c.args.self.now) c.as_slice-codes.result.now c.args.n c.saturating_sub-base.result c.args.place c.saturating_sub-base.ensures c.if-base-codes.false c.if-not-one_type.ensures
 
-pub returns-then-codes-base-gt-MAX-PARTS : goal.returns-then-codes-base-gt-MAX-PARTS
+pub returns-then-codes-base-gt-MAX_PARTS : goal.returns-then-codes-base-gt-MAX_PARTS
 unfolding held
-returns-then-codes-base-gt-MAX-PARTS c =
+returns-then-codes-base-gt-MAX_PARTS c =
     ap (λ l. decide c.args.place (list_rule (reverse (take c.args.n (map (type_at (known c.args.self.now)) (reverse l)))))) (sym c.as_slice-codes.ensures.value) ∙
-    bracket_long (known c.args.self.now) c.as_slice-codes.result.now c.args.n c.saturating_sub-base.result c.args.place c.saturating_sub-base.ensures c.if-base-codes.false c.if-not-one_type.ensures c.if-codes-base-gt-MAX-PARTS.true
+    bracket_long (known c.args.self.now) c.as_slice-codes.result.now c.args.n c.saturating_sub-base.result c.args.place c.saturating_sub-base.ensures c.if-base-codes.false c.if-not-one_type.ensures c.if-codes-base-gt-MAX_PARTS.true
 
 pub returns : goal.returns
 unfolding held
 returns c = (
   subst (λ l. get_or l c.saturating_sub-base.result 0 < length (known c.args.self.now)) (sym c.as_slice-codes.ensures.value) (c.args.self.now.codes.1 c.saturating_sub-base.result),
   ap (λ l. decide c.args.place (list_rule (reverse (take c.args.n (map (type_at (known c.args.self.now)) (reverse l)))))) (sym c.as_slice-codes.ensures.value) ∙
-      bracket_fits (known c.args.self.now) c.as_slice-codes.result.now c.args.n c.saturating_sub-base.result c.args.place c.saturating_sub-base.ensures c.if-base-codes.false c.if-not-one_type.ensures c.if-codes-base-gt-MAX-PARTS.false,
+      bracket_fits (known c.args.self.now) c.as_slice-codes.result.now c.args.n c.saturating_sub-base.result c.args.place c.saturating_sub-base.ensures c.if-base-codes.false c.if-not-one_type.ensures c.if-codes-base-gt-MAX_PARTS.false,
 )

@@ -8,12 +8,12 @@ pub returns-then-not-alike : goal.returns-then-not-alike
 returns-then-not-alike c =
     wrong_end (held c.args.self.now) (none_both _ _ _ _ c.top-body.ensures.is c.top-declared.ensures.is c.if-not-alike.ensures)
 
-pub returns-then-self-gt-MAX-WEIGHT : goal.returns-then-self-gt-MAX-WEIGHT
+pub returns-then-self-gt-MAX_WEIGHT : goal.returns-then-self-gt-MAX_WEIGHT
 unfolding held
-returns-then-self-gt-MAX-WEIGHT c =
-    heavy_end (held c.args.self.now) (sym c.top-body.ensures.is ∙ c.if-not-alike.ensures ∙ c.top-declared.ensures.is) c.if-self-gt-MAX-WEIGHT.true
+returns-then-self-gt-MAX_WEIGHT c =
+    heavy_end (held c.args.self.now) (sym c.top-body.ensures.is ∙ c.if-not-alike.ensures ∙ c.top-declared.ensures.is) c.if-self-gt-MAX_WEIGHT.true
 
 pub returns : goal.returns
 unfolding held
 returns c =
-    good_end (held c.args.self.now) (sym c.top-body.ensures.is ∙ c.if-not-alike.ensures ∙ c.top-declared.ensures.is) c.if-self-gt-MAX-WEIGHT.false
+    good_end (held c.args.self.now) (sym c.top-body.ensures.is ∙ c.if-not-alike.ensures ∙ c.top-declared.ensures.is) c.if-self-gt-MAX_WEIGHT.false

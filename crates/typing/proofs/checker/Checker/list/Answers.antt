@@ -13,12 +13,12 @@ returns-in_err-first c =
     let p = err_from_is_err_and c.from_residual.result c.from_residual.ensures.1 in
     rw (p.1, p.2) (node_no (popped c.args.n s) c.args.place (operands c.args.n s) (list_rule (operands c.args.n s)) _ c.in_err-first.ensures)
 
-pub returns-then-size-gt-MAX-PARTS : goal.returns-then-size-gt-MAX-PARTS
-returns-then-size-gt-MAX-PARTS c =
+pub returns-then-size-gt-MAX_PARTS : goal.returns-then-size-gt-MAX_PARTS
+returns-then-size-gt-MAX_PARTS c =
     let s = held c.args.self.now in
-    node_no (popped c.args.n s) c.args.place (operands c.args.n s) (list_rule (operands c.args.n s)) _ (small_no _ c.args.place _ _ c.in_ok-first.ensures.1 c.note_list-code.ensures.is (omega (arith, c.parts-size.ensures.is, c.if-size-gt-MAX-PARTS.true)))
+    node_no (popped c.args.n s) c.args.place (operands c.args.n s) (list_rule (operands c.args.n s)) _ (small_no _ c.args.place _ _ c.in_ok-first.ensures.1 c.note_list-code.ensures.is (omega (arith, c.parts-size.ensures.is, c.if-size-gt-MAX_PARTS.true)))
 
 pub returns : goal.returns
 returns c =
     let s = held c.args.self.now in
-    node_ok (popped c.args.n s) _ c.args.place (operands c.args.n s) (list_rule (operands c.args.n s)) _ _ (small_ok _ c.args.place _ _ c.in_ok-first.ensures.1 c.note_list-code.ensures.is (omega (arith, c.parts-size.ensures.is, c.if-size-gt-MAX-PARTS.false))) (omega (arith, c.operand_parts-sum.ensures.is, c.parts-size.ensures.is)) (settled s _ _ _ _ c.args.n _ c.note_list-code.ensures.is c.note_list-code.ensures.holds c.settle.ensures.holds)
+    node_ok (popped c.args.n s) _ c.args.place (operands c.args.n s) (list_rule (operands c.args.n s)) _ _ (small_ok _ c.args.place _ _ c.in_ok-first.ensures.1 c.note_list-code.ensures.is (omega (arith, c.parts-size.ensures.is, c.if-size-gt-MAX_PARTS.false))) (omega (arith, c.operand_parts-sum.ensures.is, c.parts-size.ensures.is)) (settled s _ _ _ _ c.args.n _ c.note_list-code.ensures.is c.note_list-code.ensures.holds c.settle.ensures.holds)
