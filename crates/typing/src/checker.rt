@@ -3,7 +3,7 @@ mod brackets;
 mod forks;
 mod intern;
 mod joins;
-mod judging;
+mod judge;
 mod leaves;
 mod making;
 mod names;

@@ -9,7 +9,13 @@ use Rattle.typing.proofs.checker.Checker.close.Goals as goal
 pub invariant_of-self : goal.invariant_of-self
 invariant_of-self c =
     let s = c.args.self.now in
-    (s.codes, ((under-take-map (λ f. f.start) _ _ _ _ s.logged.0 c.truncate.ensures.items, under-take-map (λ f. f.depth) _ _ _ _ s.logged.1 c.truncate.ensures.items), (s.few, ((s.rooms.0, s.rooms.1, omega (arith, s.rooms.2)), (s.others, tt)))))
+    record {
+      codes = s.codes;
+      logged = (under-take-map (λ f. f.start) _ _ _ _ s.logged.0 c.truncate.ensures.items, under-take-map (λ f. f.depth) _ _ _ _ s.logged.1 c.truncate.ensures.items);
+      few = s.few;
+      rooms = (s.rooms.0, s.rooms.1, omega (arith, s.rooms.2));
+      others = s.others;
+    }
 
 pub returns : goal.returns
 unfolding held

@@ -7,7 +7,13 @@ use Rattle.typing.proofs.checker.Checker.cut.Goals as goal
 pub invariant_of-self : goal.invariant_of-self
 invariant_of-self c =
     let s = c.args.self.now in
-    ((s.codes.0, under-take _ _ _ _ s.codes.1 c.truncate.ensures.items, s.codes.2), (s.logged, (s.few, ((s.rooms.0, omega (arith, s.rooms.1), s.rooms.2), (s.others, tt)))))
+    record {
+      codes = (s.codes.0, under-take _ _ _ _ s.codes.1 c.truncate.ensures.items, s.codes.2);
+      logged = s.logged;
+      few = s.few;
+      rooms = (s.rooms.0, omega (arith, s.rooms.1), s.rooms.2);
+      others = s.others;
+    }
 
 pub returns : goal.returns
 unfolding held

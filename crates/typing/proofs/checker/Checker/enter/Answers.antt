@@ -12,7 +12,13 @@ push_reserved-requires c = omega (arith, c.requires.room, scope_long c.args.self
 pub invariant_of-self : goal.invariant_of-self
 invariant_of-self c =
     let s = c.args.self.now in
-    ((under_push_map (λ b. b.code) _ _ _ _ s.codes.0 c.requires.within c.push_reserved.ensures.items, s.codes.1, s.codes.2), (s.logged, (s.few, ((omega (arith, s.rooms.0), s.rooms.1, s.rooms.2), (s.others, tt)))))
+    record {
+      codes = (under_push_map (λ b. b.code) _ _ _ _ s.codes.0 c.requires.within c.push_reserved.ensures.items, s.codes.1, s.codes.2);
+      logged = s.logged;
+      few = s.few;
+      rooms = (omega (arith, s.rooms.0), s.rooms.1, s.rooms.2);
+      others = s.others;
+    }
 
 pub returns : goal.returns
 unfolding held

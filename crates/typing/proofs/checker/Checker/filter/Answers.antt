@@ -11,7 +11,13 @@ invariant_of-self c =
     let s = c.args.self.now in
     let a = under-take-map (λ f. f.start) _ _ _ _ s.logged.0 c.truncate.ensures.items in
     let b = under-take-map (λ f. f.depth) _ _ _ _ s.logged.1 c.truncate.ensures.items in
-    (s.codes, ((under_push_map (λ f. f.start) _ _ _ _ a (omega (arith, c.last_fork-f.ensures.start)) c.push_reserved.ensures.items, under_push_map (λ f. f.depth) _ _ _ _ b c.last_fork-f.ensures.depth c.push_reserved.ensures.items), (s.few, ((s.rooms.0, s.rooms.1, omega (arith, s.rooms.2)), (s.others, tt)))))
+    record {
+      codes = s.codes;
+      logged = (under_push_map (λ f. f.start) _ _ _ _ a (omega (arith, c.last_fork-f.ensures.start)) c.push_reserved.ensures.items, under_push_map (λ f. f.depth) _ _ _ _ b c.last_fork-f.ensures.depth c.push_reserved.ensures.items);
+      few = s.few;
+      rooms = (s.rooms.0, s.rooms.1, omega (arith, s.rooms.2));
+      others = s.others;
+    }
 
 pub returns : goal.returns
 unfolding held

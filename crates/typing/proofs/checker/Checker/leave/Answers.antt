@@ -9,7 +9,13 @@ use Rattle.typing.proofs.checker.Checker.leave.Goals as goal
 pub invariant_of-self : goal.invariant_of-self
 invariant_of-self c =
     let s = c.args.self.now in
-    ((under-take-map (λ b. b.code) _ _ _ _ s.codes.0 c.truncate.ensures.items, s.codes.1, s.codes.2), (s.logged, (s.few, ((omega (arith, s.rooms.0), s.rooms.1, s.rooms.2), (s.others, tt)))))
+    record {
+      codes = (under-take-map (λ b. b.code) _ _ _ _ s.codes.0 c.truncate.ensures.items, s.codes.1, s.codes.2);
+      logged = s.logged;
+      few = s.few;
+      rooms = (omega (arith, s.rooms.0), s.rooms.1, s.rooms.2);
+      others = s.others;
+    }
 
 pub returns : goal.returns
 unfolding held

@@ -13,7 +13,13 @@ push_reserved-requires c =
 pub invariant_of-self : goal.invariant_of-self
 invariant_of-self c =
     let s = c.args.self.now in
-    ((s.codes.0, s.codes.1, under_push _ _ _ _ s.codes.2 c.requires.within (ap (map (λ n. n.code)) c.push_reserved.ensures.items ∙ map_push (λ n. n.code) _ _)), (s.logged, ((omega (arith, s.few.0), omega (arith, s.few.1)), (s.rooms, ((s.others.0, s.others.1, omega (arith, s.others.2)), tt)))))
+    record {
+      codes = (s.codes.0, s.codes.1, under_push _ _ _ _ s.codes.2 c.requires.within (ap (map (λ n. n.code)) c.push_reserved.ensures.items ∙ map_push (λ n. n.code) _ _));
+      logged = s.logged;
+      few = (omega (arith, s.few.0), omega (arith, s.few.1));
+      rooms = s.rooms;
+      others = (s.others.0, s.others.1, omega (arith, s.others.2));
+    }
 
 pub returns : goal.returns
 unfolding held

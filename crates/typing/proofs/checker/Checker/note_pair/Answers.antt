@@ -16,7 +16,13 @@ pub invariant_of-self : goal.invariant_of-self
 invariant_of-self c =
     let s = c.args.self.now in
     let i = c.pair-code.ensures in
-    ((under_more _ _ _ s.codes.0 i.longer, under_more _ _ _ s.codes.1 i.longer, under_push_map (λ n. n.code) _ _ _ _ (under_more _ _ _ s.codes.2 i.longer) i.within c.push_reserved.ensures.items), (s.logged, ((omega (arith, s.few.0), omega (arith, s.few.1, i.little)), (s.rooms, ((s.others.0, s.others.1, omega (arith, s.others.2)), tt)))))
+    record {
+      codes = (under_more _ _ _ s.codes.0 i.longer, under_more _ _ _ s.codes.1 i.longer, under_push_map (λ n. n.code) _ _ _ _ (under_more _ _ _ s.codes.2 i.longer) i.within c.push_reserved.ensures.items);
+      logged = s.logged;
+      few = (omega (arith, s.few.0), omega (arith, s.few.1, i.little));
+      rooms = s.rooms;
+      others = (s.others.0, s.others.1, omega (arith, s.others.2));
+    }
 
 pub returns : goal.returns
 unfolding held

@@ -16,7 +16,13 @@ push_reserved-requires-2 c =
 pub invariant_of-self : goal.invariant_of-self
 invariant_of-self c =
     let s = c.args.self.now in
-    ((s.codes.0, s.codes.1, under_push_map (λ n. n.code) _ _ _ _ s.codes.2 c.requires.within c.push_reserved.ensures.items), ((under_more _ _ _ s.logged.0 (omega arith), s.logged.1), ((omega (arith, s.few.0), omega (arith, s.few.1)), (s.rooms, ((omega (arith, s.others.0), s.others.1, omega (arith, s.others.2)), tt)))))
+    record {
+      codes = (s.codes.0, s.codes.1, under_push_map (λ n. n.code) _ _ _ _ s.codes.2 c.requires.within c.push_reserved.ensures.items);
+      logged = (under_more _ _ _ s.logged.0 (omega arith), s.logged.1);
+      few = (omega (arith, s.few.0), omega (arith, s.few.1));
+      rooms = s.rooms;
+      others = (omega (arith, s.others.0), s.others.1, omega (arith, s.others.2));
+    }
 
 pub returns : goal.returns
 unfolding held

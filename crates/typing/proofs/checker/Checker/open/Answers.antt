@@ -12,7 +12,13 @@ push_reserved-requires c = omega (arith, c.requires.room, forks_long c.args.self
 pub invariant_of-self : goal.invariant_of-self
 invariant_of-self c =
     let s = c.args.self.now in
-    (s.codes, ((under_push_map (λ f. f.start) _ _ _ _ s.logged.0 (search rules) c.push_reserved.ensures.items, under_push_map (λ f. f.depth) _ _ _ _ s.logged.1 (omega (arith, c.requires.few, scope_long s)) c.push_reserved.ensures.items), (s.few, ((s.rooms.0, s.rooms.1, omega (arith, s.rooms.2)), (s.others, tt)))))
+    record {
+      codes = s.codes;
+      logged = (under_push_map (λ f. f.start) _ _ _ _ s.logged.0 (search rules) c.push_reserved.ensures.items, under_push_map (λ f. f.depth) _ _ _ _ s.logged.1 (omega (arith, c.requires.few, scope_long s)) c.push_reserved.ensures.items);
+      few = s.few;
+      rooms = (s.rooms.0, s.rooms.1, omega (arith, s.rooms.2));
+      others = s.others;
+    }
 
 pub returns : goal.returns
 unfolding held

@@ -23,5 +23,5 @@ returns c =
     let st = vec_items c.args.self.now.stack in
     let len = ap length c.as_slice-codes.ensures.value in
     let long = ap length (take_rest xs b) ∙ length-drop b xs in
-    let n = c.parts_of_parted.ensures.small in
-    record { is = c.parts_of_parted.ensures.is ∙ ap (λ l. counted_of (map (type_at us) l)) (take_rest xs b ∙ ap (drop b) c.as_slice-codes.ensures.value) ∙ ap counted_of (sym (operands_are (type_at us) st c.args.n b (omega (arith, c.saturating_sub-base.ensures, len)))); small = omega (arith, n, long, len, stack_long c.args.self.now, c.requires) }
+    let n = c.parts_of.ensures.small in
+    record { is = c.parts_of.ensures.is ∙ ap (λ l. counted_of (map (type_at us) l)) (take_rest xs b ∙ ap (drop b) c.as_slice-codes.ensures.value) ∙ ap counted_of (sym (operands_are (type_at us) st c.args.n b (omega (arith, c.saturating_sub-base.ensures, len)))); small = omega (arith, n, long, len, stack_long c.args.self.now, c.requires) }
