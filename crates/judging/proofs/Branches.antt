@@ -1,5 +1,5 @@
 -- Judging a tree's occurrences is elaborating it: if, and comprehensions.
-use Rattle.std.proofs.Common.{◌≡◌, ℕ, ◌≤◌, cond, leb, List, ◌∷◌, ◌++◌, sym, refl, ap, ◌∙◌, arith}
+use Rattle.std.proofs.Common.{ℕ, cond, leb, List, ◌∷◌, ◌++◌, ap, ◌∙◌, arith}
 use Rattle.tokens.specs.declared.kind.Name.{Name}
 use Rattle.grammar.specs.declared.occurrence.Occurrence.{Occurrence}
 use Rattle.grammar.specs.declared.occurrence.What.{What}
@@ -8,7 +8,7 @@ use Rattle.types.specs.Types.{Ty, bool, list, parts, same}
 use Rattle.lang.specs.Outcome.{Out, ok, then, refuse}
 use Rattle.lang.specs.Rules.{limit}
 use Rattle.lang.specs.Expr.{Expr, over, each}
-use Rattle.lang.specs.Elaborate.{Typed, elaborate}
+use Rattle.lang.specs.Elaborate.{elaborate}
 use Rattle.judging.specs.Judging.{State, popped, filtering, mark, fits, judge}
 use Rattle.judging.proofs.Outcomes.{then_assoc, Slim, slim}
 use Rattle.judging.proofs.States.{after, Fine, fine_marks, fine_fork, fine_filter, fine_entered}

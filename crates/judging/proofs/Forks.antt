@@ -1,5 +1,5 @@
 -- Marking variables as used in every open fork.
-use Rattle.std.proofs.Common.{◌≡◌, ℕ, suc, ◌+◌, ◌≤◌, Bool, true, false, cond, List, [], ◌∷◌, length, replicate, sym, refl, ap, ◌∙◌, arith}
+use Rattle.std.proofs.Common.{◌≡◌, ℕ, suc, ◌≤◌, Bool, false, List, [], ◌∷◌, length, replicate, sym, refl, ap, ◌∙◌, arith}
 use Rattle.types.specs.Types.{Ty, parts}
 use Rattle.types.specs.Entries.{counted}
 use Rattle.lang.specs.Expr.{Var, Mask, empty, single, union}

@@ -1,23 +1,21 @@
 -- Judging a tree's occurrences is elaborating it: leaves and nodes that are no primitives.
-use Rattle.std.proofs.Common.{◌≡◌, ℕ, zero, suc, ◌≤◌, Bool, true, false, List, [], ◌∷◌, ◌++◌, sym, refl, ap, ◌∙◌, arith}
+use Rattle.std.proofs.Common.{◌≡◌, ℕ, ◌≤◌, Bool, true, false, List, [], ◌∷◌, ◌++◌, refl, ap, ◌∙◌}
 use mathlib.Core.Option.{Option, none, some}
 use Rattle.std.proofs.lemmas.List.{append_assoc}
 use Rattle.tokens.specs.declared.kind.Name.{Name}
 use Rattle.grammar.specs.declared.occurrence.Occurrence.{Occurrence}
 use Rattle.grammar.specs.declared.occurrence.What.{What}
 use Rattle.grammar.specs.Tree.{Tree, occ, occs}
-use Rattle.types.specs.Types.{Ty, bool, list, parts, same}
-use Rattle.lang.specs.Outcome.{Out, ok, refused, then}
+use Rattle.types.specs.Types.{Ty, parts}
+use Rattle.lang.specs.Outcome.{Out, then}
 use Rattle.lang.specs.Scope.{Binding, kinds, same_name, Found, lookup, choose}
-use Rattle.lang.specs.Expr.{Expr, over, each}
 use Rattle.lang.specs.Elaborate.{Typed, found, elaborate}
 use Rattle.lang.proofs.Sound.{Holds}
 use Rattle.judging.specs.Notes.{index_of}
-use Rattle.judging.specs.Judging.{State, popped, entered, filtering, mark, nearer, find, variable, fits, judge}
-use Rattle.judging.proofs.Outcomes.{then_assoc, then-holding, Slim, slim}
-use Rattle.judging.proofs.States.{after, Fine, fine_marks, fine_fork, fine_filter, fine_entered}
-use Rattle.judging.proofs.Nodes.{con_state, var_state, group_state, let_state, if_forked, if_joined, if_state, each_forked, each_joined, over_state, each_state}
-use Rattle.judging.proofs.Steps.{fits-then, rows_then, within-then}
+use Rattle.judging.specs.Judging.{State, popped, entered, mark, nearer, find, variable, judge}
+use Rattle.judging.proofs.Outcomes.{then-holding, Slim, slim}
+use Rattle.judging.proofs.States.{after, Fine, fine_marks, fine_entered}
+use Rattle.judging.proofs.Nodes.{con_state, var_state, group_state, let_state}
 
 pub record Judges (e : Tree) : Type 0 where
   pub run : (s : State) → Fine s.scope s.forks → (rest : List Occurrence) → judge (occs e ++ rest) s ≡ then (elaborate e s.scope) (λ y. judge rest (after y.1 s))

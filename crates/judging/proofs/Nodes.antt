@@ -1,19 +1,19 @@
 -- What the occurrences of each node do to a state, together.
-use Rattle.std.proofs.Common.{◌≡◌, ℕ, ◌+◌, ◌≤◌, Bool, true, false, List, [], ◌∷◌, ◌++◌, length, drop, replicate, sym, refl, ap, ◌∙◌, subst, add-zero, add_assoc, arith}
-use Rattle.std.proofs.lemmas.List.{append_assoc, append-nil, length-replicate}
+use Rattle.std.proofs.Common.{◌≡◌, ℕ, ◌+◌, ◌≤◌, Bool, false, List, [], ◌∷◌, length, drop, replicate, sym, refl, ap, ◌∙◌, subst, arith}
+use Rattle.std.proofs.lemmas.List.{append_assoc, length-replicate}
 use Rattle.tokens.specs.declared.kind.Name.{Name}
 use Rattle.types.specs.Types.{Ty, bool, list, parts}
 use Rattle.types.specs.Entries.{counted}
-use Rattle.lang.specs.Expr.{Var, Scalar, Mask, union, Op, infix_op, mkpair, first, second, bracket, index, len_op, range_op, flat_op, part_op, scan_op, reduce_op}
-use Rattle.lang.specs.Expr.{Expr, Args, free, frees, con, group, var, bind, prim, ite, each, over, nil, more}
-use Rattle.lang.specs.Weight.{weight, weights, parts_in}
-use Rattle.lang.specs.Scope.{Binding, bound, kinds}
+use Rattle.lang.specs.Expr.{Var, Scalar, Mask, union}
+use Rattle.lang.specs.Expr.{Expr, free, con, group, var, bind, ite, each, over}
+use Rattle.lang.specs.Weight.{weight, parts_in}
+use Rattle.lang.specs.Scope.{Binding, kinds}
 use Rattle.lang.specs.Laws.{Small}
-use Rattle.judging.specs.Notes.{Note, note, index_of, notes, notes_of, written_in}
-use Rattle.judging.specs.Judging.{State, Fork, counted_of, uses_at, parts_used, noted, weighing, popped, pushed, entered, left, with_forks, forked, fork, joined, filtering, mark, top}
+use Rattle.judging.specs.Notes.{note, index_of, notes}
+use Rattle.judging.specs.Judging.{State, Fork, uses_at, parts_used, noted, weighing, popped, pushed, entered, left, with_forks, forked, fork, joined, filtering, mark, top}
 use Rattle.judging.proofs.Marking.{flags, marked, marked-length, marked_inner, marked_twice}
-use Rattle.judging.proofs.Forks.{marks, Inside, inside_marks, marks_none, marks_twice, marks_single, marks_inner, AllSmall, counted_small, counted-all, kinds-length, scope_flags, parts-since}
-use Rattle.judging.proofs.States.{after, spent, made_same, Fine}
+use Rattle.judging.proofs.Forks.{marks, Inside, inside_marks, marks_none, marks_twice, marks_single, marks_inner, counted_small, kinds-length, scope_flags, parts-since}
+use Rattle.judging.proofs.States.{after, made_same, Fine}
 
 -- ---- leaves
 pub con_state : {t : Ty} (s : State) (p : ℕ) (k : Scalar t) → noted (note t) (weighing 1 (pushed t s)) ≡ after {Γ = kinds s.scope} (con p k) s

@@ -1,14 +1,13 @@
 -- Operands on the stack, and the primitive that takes them off.
-use Rattle.std.proofs.Common.{◌≡◌, ℕ, zero, suc, ◌+◌, ◌≤◌, List, [], ◌∷◌, ◌++◌, reverse, length, take, drop, sym, refl, ap, ◌∙◌, arith}
+use Rattle.std.proofs.Common.{◌≡◌, ℕ, ◌+◌, ◌≤◌, List, [], ◌∷◌, ◌++◌, reverse, length, take, drop, sym, refl, ap, ◌∙◌, arith}
 use Rattle.std.proofs.lemmas.List.{append_assoc, append-nil, reverse-append, reverse-reverse, length-reverse}
 use Rattle.types.specs.Types.{Ty, parts}
 use Rattle.types.specs.Entries.{counted}
-use Rattle.lang.specs.Expr.{Mask, empty, union, Op, infix_op, mkpair, first, second, bracket, index, len_op, range_op, flat_op, part_op, scan_op, reduce_op}
+use Rattle.lang.specs.Expr.{empty, union, Op, infix_op, mkpair, first, second, bracket, index, len_op, range_op, flat_op, part_op, scan_op, reduce_op}
 use Rattle.lang.specs.Expr.{Expr, Args, free, frees, prim, nil, more}
 use Rattle.lang.specs.Weight.{weight, weights}
-use Rattle.lang.specs.Scope.{kinds}
 use Rattle.lang.specs.Elaborate.{add_last}
-use Rattle.judging.specs.Notes.{Note, note, notes, notes_of, written_in}
+use Rattle.judging.specs.Notes.{note, notes, notes_of, written_in}
 use Rattle.judging.specs.Judging.{State, Fork, counted_of, noted, weighing, popped, pushed}
 use Rattle.judging.proofs.Marking.{flags}
 use Rattle.judging.proofs.Forks.{marks, marks_none, marks_twice, AllSmall, counted_small, counted-all}

@@ -1,5 +1,5 @@
 -- Outcomes one after the other.
-use Rattle.std.proofs.Common.{◌≡◌, ℕ, ◌≤◌, List, refl}
+use Rattle.std.proofs.Common.{◌≡◌, ◌≤◌, List, refl}
 use Rattle.types.specs.Types.{Ty, parts}
 use Rattle.grammar.specs.Tree.{Tree}
 use Rattle.lang.specs.Scope.{Binding, kinds}

@@ -1,6 +1,5 @@
 -- Judging a tree's occurrences is elaborating it: primitives.
-use Rattle.std.proofs.Common.{◌≡◌, ℕ, suc, ◌+◌, ◌≤◌, Bool, true, false, cond, leb, List, [], ◌∷◌, ◌++◌, reverse, length, take, sym, refl, ap, ◌∙◌, arith}
-use mathlib.Core.Option.{Option, none, some}
+use Rattle.std.proofs.Common.{◌≡◌, ℕ, ◌+◌, ◌≤◌, Bool, true, false, cond, leb, List, [], ◌∷◌, ◌++◌, length, sym, refl, ap, ◌∙◌, arith}
 use Rattle.std.proofs.lemmas.List.{append_assoc}
 use Rattle.std.proofs.lemmas.Bool.{leb-true}
 use Rattle.grammar.specs.declared.occurrence.Occurrence.{Occurrence}
@@ -11,18 +10,18 @@ use Rattle.grammar.specs.declared.occurrence.Operation.{Operation}
 use Rattle.grammar.specs.Tree.{Tree, Fold, scan, reduce, occ, occs, count}
 use Rattle.types.specs.Types.{Ty, list, parts}
 use Rattle.types.specs.Entries.{counted}
-use Rattle.lang.specs.Outcome.{Out, ok, refused, then, refuse}
+use Rattle.lang.specs.Outcome.{then}
 use Rattle.lang.specs.Scope.{Binding, kinds}
-use Rattle.lang.specs.Expr.{Expr, Args, hollow, prim, nil, more, free, frees}
+use Rattle.lang.specs.Expr.{hollow, prim, nil, more, free, frees}
 use Rattle.lang.specs.Weight.{weight, weights}
 use Rattle.lang.specs.Rules.{Verdict, gives, large, limit, infix_rule, pair_rule, index_rule, part_rule, unary_rule, fold_rule, empty_rule, list_rule}
-use Rattle.lang.specs.Elaborate.{Typed, Operands, judged, one as one_of_lem, two as two-of, hollow_list, elaborate, elements}
+use Rattle.lang.specs.Elaborate.{Operands, judged, one as one_of_lem, two as two-of, hollow_list, elaborate, elements}
 use Rattle.lang.specs.Laws.{Small}
 use Rattle.lang.proofs.Sound.{Holds, after as then-holds, long_last}
 use Rattle.judging.specs.Notes.{note, notes, notes_of}
 use Rattle.judging.specs.Judging.{State, counted_of, noted, weighing, pushed, popped, node_of, one, two, step, judge}
 use Rattle.judging.proofs.Forks.{AllSmall, marks_none, counted_small}
-use Rattle.judging.proofs.Outcomes.{then_assoc, then-holding, Slim, slim}
+use Rattle.judging.proofs.Outcomes.{then-holding, Slim, slim}
 use Rattle.judging.proofs.States.{after, spent, stacked, made_same, Fine, fine_marks}
 use Rattle.judging.proofs.Operands.{one-spent, two-spent, first_stacked, more_stacked, stacked_operands, stacked_popped}
 use Rattle.judging.proofs.Steps.{node_then, list_then}

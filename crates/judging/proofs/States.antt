@@ -1,11 +1,11 @@
 -- The state after an expression, and after operands.
-use Rattle.std.proofs.Common.{◌≡◌, ℕ, suc, ◌+◌, ◌≤◌, Bool, true, false, List, [], ◌∷◌, ◌++◌, reverse, length, replicate, sym, refl, ap, ◌∙◌, arith}
+use Rattle.std.proofs.Common.{◌≡◌, ℕ, suc, ◌+◌, ◌≤◌, Bool, false, List, ◌∷◌, ◌++◌, reverse, length, replicate, ap, ◌∙◌, arith}
 use Rattle.std.proofs.lemmas.List.{length-replicate}
 use Rattle.tokens.specs.declared.kind.Name.{Name}
 use Rattle.types.specs.Types.{Ty, parts}
 use Rattle.lang.specs.Expr.{Expr, Args, free, frees}
 use Rattle.lang.specs.Weight.{weight, weights}
-use Rattle.lang.specs.Scope.{Binding, bound, kinds}
+use Rattle.lang.specs.Scope.{Binding, bound}
 use Rattle.lang.specs.Laws.{Small}
 use Rattle.judging.specs.Notes.{Note, notes, notes_of}
 use Rattle.judging.specs.Judging.{Fork, State}

@@ -1,13 +1,13 @@
 -- One occurrence against one step of elaboration: where either refuses so does the other.
-use Rattle.std.proofs.Common.{◌≡◌, ℕ, ◌+◌, ◌≤◌, Bool, true, false, cond, leb, List, [], ◌∷◌, sym, ap, ◌∙◌}
+use Rattle.std.proofs.Common.{◌≡◌, ℕ, ◌≤◌, Bool, true, false, cond, leb, List, [], ◌∷◌, ap, ◌∙◌}
 use mathlib.Core.Path as P
 use mathlib.Core.Option.{Option, none, some}
 use Rattle.tokens.specs.declared.kind.Name.{Name}
 use Rattle.grammar.specs.declared.occurrence.Occurrence.{Occurrence}
 use Rattle.types.specs.Types.{Ty, int, bool, pair, list, parts}
-use Rattle.lang.specs.Outcome.{Out, ok, refused, then, refuse}
+use Rattle.lang.specs.Outcome.{Out, ok, then, refuse}
 use Rattle.lang.specs.Rules.{Verdict, gives, unfit, large, limit, list_rule}
-use Rattle.lang.specs.Expr.{Op, Expr, Args, prim}
+use Rattle.lang.specs.Expr.{Expr, Args}
 use Rattle.lang.specs.Elaborate.{Typed, judged, at_type, rows, within}
 use Rattle.lang.proofs.Sound.{Holds}
 use Rattle.judging.specs.Judging.{State, node_of, fits, each_fork, judge}
@@ -15,7 +15,7 @@ use Rattle.judging.proofs.Forks.{AllSmall}
 use Rattle.judging.proofs.Outcomes.{Slim}
 use Rattle.judging.proofs.States.{after, spent}
 use Rattle.judging.proofs.Operands.{prim_state}
-use Rattle.judging.proofs.Nodes.{each_forked, each_joined}
+use Rattle.judging.proofs.Nodes.{each_forked}
 
 -- a type that is wanted; F is the state for an expression of any type
 pub fits-then : {Γ : List Ty} {t u : Ty} {B C : Type 0} (Q : B → Type 0) (m : Option (Id Ty t u)) (p : ℕ) (x : Expr Γ t) (F : (t : Ty) → Expr Γ t → State)

@@ -6,7 +6,7 @@ use Rattle.grammar.specs.declared.occurrence.Occurrence.{Occurrence}
 use Rattle.grammar.specs.declared.occurrence.What.{What}
 use Rattle.grammar.specs.Tree.{Tree, occ, occs}
 use Rattle.types.specs.Types.{Ty, int, bool, pair, list}
-use Rattle.lang.specs.Written.{both, many, written}
+use Rattle.lang.specs.Written.{written}
 use Rattle.lang.specs.Phrases.{TypePhrase, of_int, of_bool, of_both, of_many}
 use Rattle.judging.specs.Notes.{type_notes}
 use Rattle.judging.specs.Judging.{State, judge}

@@ -11,7 +11,7 @@ use Rattle.grammar.specs.declared.occurrence.Occurrence.{Occurrence}
 use Rattle.grammar.specs.declared.occurrence.What.{What}
 use Rattle.grammar.specs.Tree.{Fold, scan, reduce, occ, folding}
 use Rattle.types.specs.Types.{Ty, int, bool, pair, list, parts, same}
-use Rattle.lang.specs.Expr.{Op, part_op, bracket, Expr, Args, nil, more}
+use Rattle.lang.specs.Expr.{Op, part_op, bracket, Args, nil, more}
 use Rattle.lang.specs.Scope.{Binding, Found}
 use Rattle.lang.specs.Rules.{Verdict, gives, unfit, large, limit, limited, is, of_pair, of_list, Alike, alike, all_alike, list_of}
 use Rattle.lang.specs.Rules.{infix_rule, index_rule, part_rule, unary_rule, fold_rule, list_rule}

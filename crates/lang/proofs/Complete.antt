@@ -1,21 +1,20 @@
 -- Where the rules give a type, elaboration answers an expression of it; so a tree has one type.
-use Rattle.std.proofs.Common.{◌≡◌, ℕ, suc, ◌+◌, ◌<◌, ◌≤◌, true, cond, leb, List, [], ◌∷◌, ◌++◌, length, sym, ap, ◌∙◌, arith}
+use Rattle.std.proofs.Common.{◌≡◌, ℕ, ◌<◌, ◌≤◌, cond, List, [], ◌∷◌, ◌++◌, length, sym, ap, ◌∙◌, arith}
 use mathlib.Core.Path as P
-use mathlib.Core.Option.{Option, none, some}
+use mathlib.Core.Option.{some}
 use Rattle.std.proofs.lemmas.Bool.{le-leb}
-use Rattle.types.specs.Types.{Ty, int, bool, pair, list, parts, same}
+use Rattle.types.specs.Types.{Ty, parts}
 use Rattle.grammar.specs.Tree.{Tree, count}
-use Rattle.lang.specs.Expr.{Expr, Args, group, bind, prim, ite, each, over, nil, more, joined, infix_op, mkpair, first, second, index, len_op, range_op, flat_op, part_op, hollow, scan_op, reduce_op}
-use Rattle.lang.specs.Scope.{Binding, bound, kinds, lookup}
-use Rattle.lang.specs.Rules.{gives, limited}
-use Rattle.lang.specs.Outcome.{Out, ok, refused, then, refuse}
-use Rattle.lang.specs.Written.{Writes, writes_int, writes_bool, writes_pair, writes_list, Written, both, many, written}
-use Rattle.lang.specs.Elaborate.{Typed, Operands, found, judged, one, two, add_last, at_type, wanted, rows, within, hollow_list, elaborate, elements}
+use Rattle.lang.specs.Expr.{Expr, group, bind, prim, ite, each, over, nil, more, joined, infix_op, mkpair, first, second, index, len_op, range_op, flat_op, part_op, hollow, scan_op, reduce_op}
+use Rattle.lang.specs.Scope.{Binding, kinds}
+use Rattle.lang.specs.Outcome.{Out, ok, refused, refuse}
+use Rattle.lang.specs.Written.{Writes, writes_int, writes_bool, writes_pair, writes_list, written}
+use Rattle.lang.specs.Elaborate.{Typed, Operands, found, add_last, at_type, wanted, within, elaborate, elements}
 use Rattle.lang.specs.Typing.{HasType, has_number, has_truth, has_variable, has_let, has_if, has_each, has_sieve, has_infix, has_fst, has_snd, has_len, has_range, has_flat, has_scan, has_reduce, has_index, has_group, has_pair, has_part, has_empty, has_list, AllHave, has_first, has_more}
 use Rattle.lang.specs.Laws.{Elaborates, TypingLaw, UniqueLaw}
 use Rattle.lang.proofs.Names.{lookup_finds}
 use Rattle.lang.proofs.Rules.{same_self, limit_gives, All, bracket_gives}
-use Rattle.lang.proofs.Sound.{Holds, long_last, sound}
+use Rattle.lang.proofs.Sound.{long_last, sound}
 
 pub written-writes : {e : Tree} {p : ℕ} {t : Ty} → Writes e p t → written e ≡ some (p, t)
 unfolding written

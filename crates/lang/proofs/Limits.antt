@@ -1,17 +1,14 @@
 -- What elaboration answers keeps the limits.
-use Rattle.std.proofs.Common.{◌≡◌, ℕ, ◌≤◌, Bool, true, false, cond, leb, List, [], ◌∷◌, ◌++◌, length, arith}
-use mathlib.Core.Path as P
+use Rattle.std.proofs.Common.{◌≡◌, ℕ, ◌≤◌, List, [], ◌∷◌, length, arith}
 use mathlib.Core.Option.{Option, none, some}
-use Rattle.std.proofs.lemmas.Bool.{leb-true}
-use Rattle.types.specs.Types.{Ty, int, bool, pair, list, parts, same}
-use Rattle.tokens.specs.declared.kind.Name.{Name}
+use Rattle.types.specs.Types.{Ty, bool, list, parts}
 use Rattle.grammar.specs.Tree.{Tree, count}
-use Rattle.lang.specs.Expr.{Expr, Args, con, group, var, bind, prim, ite, each, over, nil, more}
+use Rattle.lang.specs.Expr.{Expr, Args, each, over, nil, more}
 use Rattle.lang.specs.Scope.{Binding, bound, kinds, Found, lookup}
 use Rattle.lang.specs.Rules.{Verdict, gives, unfit, large, limit, infix_rule, pair_rule, index_rule, part_rule, unary_rule, fold_rule, empty_rule, list_rule}
-use Rattle.lang.specs.Outcome.{Out, ok, refused, then, refuse}
+use Rattle.lang.specs.Outcome.{Out, ok, refused, then}
 use Rattle.lang.specs.Written.{Written, written}
-use Rattle.lang.specs.Elaborate.{Typed, Operands, found, judged, one, two, add_last, at_type, wanted, rows, within, hollow_list, elaborate, elements}
+use Rattle.lang.specs.Elaborate.{Typed, Operands, found, judged, one, two, add_last, wanted, rows, hollow_list, elaborate, elements}
 use Rattle.lang.specs.Typing.{HasType, has_list}
 use Rattle.lang.specs.Laws.{Small}
 use Rattle.lang.specs.Limits.{Limited, Limiteds, LimitsLaw}

@@ -4,7 +4,7 @@ use mathlib.Core.Path as P
 use mathlib.Core.Option.{Option, none, some}
 use Rattle.std.proofs.lemmas.Bool.{leb-true, le-leb}
 use Rattle.types.specs.Types.{Ty, int, bool, pair, list, parts, same, same_pair, same_list}
-use Rattle.lang.specs.Expr.{copies, Op, Args, bracket}
+use Rattle.lang.specs.Expr.{copies, Op, bracket}
 use Rattle.lang.specs.Rules.{Verdict, gives, unfit, large, limited, is, of_pair, of_list, Alike, alike, one_more, all_alike, list_of, list_rule}
 
 -- a type is the same as itself

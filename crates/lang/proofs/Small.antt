@@ -1,5 +1,5 @@
 -- No expression's type has more than 8 parts, if none in scope has.
-use Rattle.std.proofs.Common.{◌≡◌, ℕ, ◌≤◌, List, [], ◌∷◌, refl, arith}
+use Rattle.std.proofs.Common.{◌≡◌, ◌≤◌, List, refl, arith}
 use Rattle.tokens.specs.declared.kind.Name.{Name}
 use Rattle.types.specs.Types.{Ty, parts}
 use Rattle.grammar.specs.declared.occurrence.Infix.{Infix}

@@ -1,5 +1,5 @@
 -- What elaboration answers has the type that the rules give.
-use Rattle.std.proofs.Common.{◌≡◌, ℕ, suc, ◌+◌, ◌≤◌, Bool, true, false, cond, leb, List, [], ◌∷◌, ◌++◌, length, ap, ◌∙◌, arith}
+use Rattle.std.proofs.Common.{◌≡◌, ℕ, ◌+◌, ◌≤◌, Bool, true, false, cond, leb, List, [], ◌∷◌, ◌++◌, length, ap, ◌∙◌, arith}
 use mathlib.Core.Path as P
 use mathlib.Core.Option.{Option, none, some}
 use Rattle.std.proofs.lemmas.Bool.{leb-true}
@@ -9,9 +9,9 @@ use Rattle.grammar.specs.declared.occurrence.Unary.{Unary}
 use Rattle.grammar.specs.declared.occurrence.Unary.TheVariants.{Fst, Snd, Len, Range, Flat}
 use Rattle.grammar.specs.declared.occurrence.Operation.{Operation}
 use Rattle.grammar.specs.Tree.{Fold, scan, reduce, Tree, count}
-use Rattle.lang.specs.Expr.{Expr, Args, Op, answers, joined, infix_op, mkpair, part_op, hollow, nil, more, index, scan_op, reduce_op, range_op, len_op, flat_op}
+use Rattle.lang.specs.Expr.{Expr, Args, answers, joined, infix_op, mkpair, part_op, hollow, nil, more, index, scan_op, reduce_op, range_op}
 use Rattle.lang.specs.Scope.{Binding, bound, kinds, Found, lookup}
-use Rattle.lang.specs.Rules.{Verdict, gives, unfit, large, is, of_list, infix_rule, pair_rule, index_rule, part_rule, unary_rule, fold_rule, empty_rule, list_rule}
+use Rattle.lang.specs.Rules.{Verdict, gives, unfit, large, is, infix_rule, pair_rule, index_rule, part_rule, unary_rule, fold_rule, empty_rule, list_rule}
 use Rattle.lang.specs.Outcome.{Out, ok, refused, then, refuse}
 use Rattle.lang.specs.Written.{Writes, writes_int, writes_bool, writes_pair, writes_list, Written, both, many, written}
 use Rattle.lang.specs.Elaborate.{Typed, Operands, found, judged, one, two, at_type, wanted, rows, within, hollow_list, elaborate, elements}

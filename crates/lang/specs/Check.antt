@@ -7,7 +7,7 @@ use Rattle.lang.specs.Expr.{Expr}
 use Rattle.lang.specs.Weight.{weight}
 use Rattle.lang.specs.Scope.{bound}
 use Rattle.lang.specs.Rules.{limit}
-use Rattle.lang.specs.Outcome.{Out, ok, refused, then, refuse}
+use Rattle.lang.specs.Outcome.{Out, ok, then, refuse}
 use Rattle.lang.specs.Written.{Written, written}
 use Rattle.lang.specs.Elaborate.{Typed, elaborate}
 

@@ -4,7 +4,7 @@ use Rattle.std.proofs.Math.Option.{Option, none, some}
 use Rattle.monoid.specs.Ints.{int_of}
 use Rattle.types.specs.Types.{Ty, int, bool, pair, list, parts, same}
 use Rattle.grammar.specs.Tree.{Tree}
-use Rattle.lang.specs.Outcome.{Out, ok, refused, then, refuse}
+use Rattle.lang.specs.Outcome.{Out, ok, then, refuse}
 use Rattle.lang.specs.Written.{Written, written}
 use Rattle.lang.specs.Expr.{Expr, Args, number, truth, con, group, var, bind, prim, ite, each, over, nil, more}
 use Rattle.lang.specs.Scope.{Binding, bound, kinds, Found, lookup}

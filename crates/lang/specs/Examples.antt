@@ -1,5 +1,5 @@
 -- Eight small programs: what is accepted, and where the others are refused.
-use Rattle.std.specs.Prelude.{◌≡◌, ℕ, true, [], ◌∷◌, pos, codes}
+use Rattle.std.specs.Prelude.{◌≡◌, ℕ, true, pos, codes}
 use Rattle.monoid.specs.Ints.{int_of}
 use Rattle.tokens.specs.declared.kind.Name.{Name}
 use Rattle.tokens.specs.Words.{padded}

@@ -1,5 +1,5 @@
 -- Names, and what each is bound to.
-use Rattle.std.specs.Prelude.{◌≡◌, ℕ, Bool, true, false, ◌&&◌, List, [], ◌∷◌, ◌==◌, ◌≢◌}
+use Rattle.std.specs.Prelude.{ℕ, Bool, true, false, ◌&&◌, List, [], ◌∷◌, ◌==◌, ◌≢◌}
 use Rattle.std.proofs.Math.Option.{Option, none, some}
 use Rattle.tokens.specs.declared.kind.Name.{Name}
 use Rattle.types.specs.Types.{Ty}

@@ -5,7 +5,7 @@ use Rattle.types.specs.Types.{Ty, int, bool, pair, list, parts}
 use Rattle.grammar.specs.declared.occurrence.Infix.{Infix}
 use Rattle.grammar.specs.declared.occurrence.Unary.TheVariants.{Fst, Snd, Len, Range, Flat}
 use Rattle.grammar.specs.declared.occurrence.Operation.{Operation}
-use Rattle.grammar.specs.Tree.{Fold, scan, reduce, Tree, count}
+use Rattle.grammar.specs.Tree.{scan, reduce, Tree, count}
 use Rattle.lang.specs.Expr.{answers, joined}
 use Rattle.lang.specs.Scope.{Binding, bound, Bound}
 use Rattle.lang.specs.Rules.{limit}

@@ -1,10 +1,10 @@
 -- A scan of the lift, read inside a segment, is the segment's own. Assumes nothing.
-use Rattle.std.proofs.Common.{◌≡◌, ℕ, zero, suc, ◌+◌, ◌-◌, ◌<◌, ◌≤◌, Bool, true, false, List, [], ◌∷◌, ◌++◌, map, length, get_or, take, drop, set, sum, sym, refl, ap, ◌∙◌, ap₂, append_assoc, append-nil, add-one, arith, length-append, length-drop, length-set, take-append-drop, length-take}
-use Rattle.std.proofs.lemmas.List.{length-take-le, ext_get_or, get_or-set_same, get_or-set_other, get_or-take, get_or-drop, take-take}
+use Rattle.std.proofs.Common.{◌≡◌, ℕ, zero, suc, ◌+◌, ◌-◌, ◌<◌, ◌≤◌, Bool, true, false, List, [], ◌∷◌, ◌++◌, length, get_or, take, drop, sum, sym, refl, ap, ◌∙◌, ap₂, append_assoc, append-nil, arith, length-append, length-drop}
+use Rattle.std.proofs.lemmas.List.{length-take-le}
 use Rattle.std.proofs.lemmas.List.Sums.{sum_by-cons}
 use Rattle.monoid.specs.Laws.{Laws, product}
 use Rattle.monoid.specs.Lifted.{lifted}
-use Rattle.monoid.specs.Segments.{marked, places, cut, running, scanned}
+use Rattle.monoid.specs.Segments.{places, cut, running, scanned}
 use Rattle.monoid.proofs.Lifts.{product_inside}
 use Rattle.monoid.proofs.Segments.{upto, cut_more, places_split, length-places}
 

@@ -1,7 +1,7 @@
 -- The language's ints: their width, and the arithmetic that wraps to it.
-use Rattle.std.specs.Prelude.{◌-◌, ◌^◌, ◌<◌, Bool, false, cond, List, [], ◌∷◌, ℤ, pos, negsuc, ◌+ℤ◌, ◌*ℤ◌, ◌==◌, bit_or, int_lt}
+use Rattle.std.specs.Prelude.{◌-◌, ◌^◌, Bool, false, cond, List, [], ◌∷◌, ℤ, pos, negsuc, ◌+ℤ◌, ◌*ℤ◌, ◌==◌, bit_or, int_lt}
 use Rattle.std.proofs.Common.{lit<}
-use mir.Val.{hbits, to_z, of_z}
+use mir.Val.{hbits, of_z}
 use Rattle.std.specs.Int.{int_wrap, Width, w32}
 use Rattle.std.proofs.lemmas.Int.{SFits-int_wrap}
 use Rattle.monoid.specs.declared.int.Int.{Int}

@@ -1,5 +1,5 @@
 -- The arithmetic of ints keeps its laws.
-use Rattle.std.specs.Prelude.{◌≡◌, ℕ, ◌-◌, ◌^◌, ◌<◌, Bool, true, false, cond, List, [], ◌∷◌, map, ℤ, pos, negsuc, ◌+ℤ◌, ◌*ℤ◌, FitsSigned, bit_or, int_lt, refl}
+use Rattle.std.specs.Prelude.{◌≡◌, ◌^◌, ◌<◌, Bool, true, false, cond, List, [], ◌∷◌, map, ℤ, pos, negsuc, FitsSigned, bit_or, int_lt, refl}
 use Rattle.std.proofs.Common.{ap, ap₂, sym, ◌∙◌, subst, arith}
 use Rattle.std.proofs.Math.Bridge.{le_prop}
 use Rattle.std.proofs.lemmas.Nat.{or_lt}
@@ -9,7 +9,7 @@ use Rattle.std.specs.Int.Signed.{mag}
 use mir.Val.{to_z, of_z, bits, hbits}
 use mir.ValLaws.{of_z_fits}
 use Rattle.std.proofs.lemmas.Int.{ints, to_z-of_z, of_z-to_z, int_wrap_fits, int_wrap-add_right}
-use Rattle.std.specs.Int.{int_wrap, Width}
+use Rattle.std.specs.Int.{int_wrap}
 use Rattle.monoid.specs.Laws.{Laws, SemiringLaws, product}
 use Rattle.monoid.specs.Ints.{width, int_zero, int_one, int_least, int_sum, int_product, int_of, larger, zero_number, is_zero, later, int_or, exact_sum, wrapped_sum}
 use Rattle.monoid.specs.declared.int.Int.{Int}

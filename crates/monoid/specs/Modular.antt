@@ -1,8 +1,8 @@
 -- Arithmetic that wraps, over the width.
 use Rattle.std.specs.Prelude.{◌≡◌, ℕ, ◌*◌, ◌^◌, ◌<◌, ℤ, pos, ◌+ℤ◌, ◌*ℤ◌, FitsSigned}
 use Rattle.std.proofs.Math.Path.{ap}
-use Rattle.std.proofs.Common.{ap₂, sym, ◌∙◌, arith, mod-eq_of_lt}
-use Rattle.std.proofs.Math.IntN.{one, *ℤ_comm, *ℤ-one, *ℤ-zero}
+use Rattle.std.proofs.Common.{sym, ◌∙◌, arith, mod-eq_of_lt}
+use Rattle.std.proofs.Math.IntN.{one, *ℤ-one}
 use mir.Val.{to_z, bits}
 use borrow.Author.Differences.{up, down, same_in, sum_is_lem, product_is}
 use Rattle.std.specs.Int.{int_wrap, Width}

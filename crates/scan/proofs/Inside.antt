@@ -1,5 +1,5 @@
 -- A scan of the lift, with the identity written at each head, is the scan of each segment by itself.
-use Rattle.std.proofs.Common.{◌≡◌, ℕ, zero, suc, ◌+◌, ◌-◌, ◌<◌, ◌≤◌, Bool, true, false, ◌≢◌, List, ◌++◌, map, length, get_or, take, drop, set, sum, sym, refl, ap, ◌∙◌, ap₂, append_assoc, append-nil, arith, length-drop, length-set, take-append-drop}
+use Rattle.std.proofs.Common.{◌≡◌, ℕ, zero, suc, ◌+◌, ◌-◌, ◌<◌, ◌≤◌, Bool, false, ◌≢◌, List, ◌++◌, map, length, get_or, take, drop, set, sum, sym, ap, ◌∙◌, ap₂, append_assoc, append-nil, arith, length-drop, length-set, take-append-drop}
 use Rattle.std.proofs.lemmas.List.{ext_get_or, get_or-map, get_or-take, get_or-drop, get_or-set_same, get_or-set_other, drop-set-lt, drop-drop, set-append_right, length-take-le, length-map}
 use Rattle.monoid.specs.Laws.{Laws, product}
 use Rattle.monoid.specs.Lifted.{lifted}

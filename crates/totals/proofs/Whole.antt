@@ -1,5 +1,5 @@
 -- From rows side by side to the text that they were read from.
-use Rattle.std.proofs.Common.{◌≡◌, ℕ, ◌+◌, ◌%◌, ◌^◌, List, map, length, sum, sym, ap, ◌∙◌, subst, ap₂}
+use Rattle.std.proofs.Common.{◌≡◌, ℕ, ◌+◌, ◌%◌, ◌^◌, List, length, sum, sym, ap, ◌∙◌, subst, ap₂}
 use Rattle.std.proofs.lemmas.List.{length-map}
 use Rattle.monoid.specs.Segments.{cut, concat}
 use Rattle.monoid.specs.declared.int.Int.{Int}

@@ -1,5 +1,5 @@
 -- The types of the language, and how many parts each has.
-use Rattle.std.specs.Prelude.{◌≡◌, ℕ, ◌+◌}
+use Rattle.std.specs.Prelude.{ℕ, ◌+◌}
 use Rattle.std.proofs.Math.Option.{Option, none, some}
 
 pub data Ty : Type 0 where

@@ -4,12 +4,12 @@ use Rattle.std.proofs.Common.{◌≡◌, ℕ, zero, suc, ◌+◌, ◌-◌, ◌<�
 use mathlib.Core.Option.{Option, none, some}
 use Rattle.std.proofs.lemmas.List.{reverse-reverse, length-reverse, take-map, take_all, take_rest, drop_all, drop_more, get_or-map, get_or-drop, length-map, length-drop}
 use Rattle.std.proofs.lemmas.Bool.{cases_lt, le-leb, lt-leb}
-use Rattle.types.specs.Types.{Ty, int, bool, pair, list, parts, same}
+use Rattle.types.specs.Types.{Ty, list, parts, same}
 use Rattle.types.specs.Entries.{counted}
 use Rattle.types.proofs.Same.{same_self}
-use Rattle.lang.specs.Outcome.{Out, ok, refused, then, refuse}
+use Rattle.lang.specs.Outcome.{Out, ok, refuse}
 use Rattle.lang.specs.Expr.{bracket}
-use Rattle.lang.specs.Rules.{Verdict, gives, unfit, large, limit, limited, list_rule, list_of, all_alike, one_more, Alike, alike}
+use Rattle.lang.specs.Rules.{gives, large, limit, list_rule, list_of, all_alike, one_more, Alike, alike}
 use Rattle.typing.specs.Codes.{type_at}
 use Rattle.typing.specs.Elements.{OneType}
 use Rattle.judging.specs.Judging.{decide}

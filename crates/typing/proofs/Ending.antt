@@ -1,10 +1,10 @@
 -- Judging all occurrences, and the end of a program.
-use Rattle.std.proofs.Common.{◌≡◌, ℕ, ◌+◌, ◌<◌, ◌≤◌, Bool, true, false, cond, leb, List, ◌∷◌, length, get_or, drop, sym, refl, ap, ◌∙◌, subst}
+use Rattle.std.proofs.Common.{◌≡◌, ℕ, ◌+◌, ◌<◌, ◌≤◌, cond, leb, List, ◌∷◌, length, get_or, drop, sym, ap, ◌∙◌}
 use mathlib.Core.Option.{none}
 use Rattle.std.proofs.lemmas.List.{at_drop_more}
 use Rattle.std.proofs.lemmas.Bool.{le-leb, lt-leb}
 use Rattle.tokens.specs.Faults.{Refusal}
-use Rattle.types.specs.Types.{Ty, same}
+use Rattle.types.specs.Types.{same}
 use Rattle.types.proofs.Same.{same_self}
 use Rattle.grammar.specs.declared.occurrence.Occurrence.{Occurrence}
 use Rattle.lang.specs.Outcome.{Out, ok, refused, then, refuse}

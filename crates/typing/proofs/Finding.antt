@@ -1,8 +1,8 @@
 -- The innermost variable of a name.
-use Rattle.std.proofs.Common.{◌≡◌, ℕ, zero, suc, ◌+◌, ◌-◌, ◌<◌, ◌≤◌, Bool, true, false, List, [], ◌∷◌, length, get_or, vec_items, vec_len, sym, refl, ap, ◌∙◌, subst, arith, below_more}
-use mathlib.Core.Option.{Option, none, some}
+use Rattle.std.proofs.Common.{◌≡◌, ℕ, zero, suc, ◌+◌, ◌-◌, ◌<◌, ◌≤◌, true, false, List, [], ◌∷◌, length, get_or, vec_items, vec_len, sym, refl, ap, ◌∙◌, subst, arith, below_more}
+use mathlib.Core.Option.{none, some}
 use Rattle.tokens.specs.declared.kind.Name.{Name}
-use Rattle.types.specs.Types.{Ty, int}
+use Rattle.types.specs.Types.{int}
 use Rattle.lang.specs.Scope.{Binding, kinds, same_name}
 use Rattle.judging.specs.Judging.{find, nearer}
 use Rattle.typing.specs.Codes.{binding_of}
@@ -10,7 +10,7 @@ use Rattle.typing.specs.Holding.{held, known, type_in}
 use Rattle.typing.specs.declared.checker.Checker.{Checker}
 use Rattle.typing.specs.declared.parts.Binding.{Binding as Entry}
 use Rattle.typing.proofs.Lists.{top_there, under_at}
-use Rattle.typing.proofs.Held.{scope_long, sc, ts}
+use Rattle.typing.proofs.Held.{scope_long, sc}
 
 pub find_none : (s : List Binding) (n : Name) → ((j : ℕ) (d : Binding) → j < length s → same_name n (get_or s j d).name ≡ false) → find s n ≡ none
 find_none [] n h = refl

@@ -1,10 +1,10 @@
 -- Forks and the uses since.
-use Rattle.std.proofs.Common.{◌≡◌, ℕ, zero, suc, ◌+◌, ◌-◌, ◌<◌, ◌≤◌, Bool, true, false, List, [], ◌∷◌, ◌++◌, map, reverse, length, get_or, take, drop, replicate, vec_items, vec_len, sym, refl, ap, ◌∙◌, subst, arith}
+use Rattle.std.proofs.Common.{◌≡◌, ℕ, suc, ◌+◌, ◌-◌, ◌<◌, ◌≤◌, Bool, true, false, List, [], ◌∷◌, ◌++◌, map, reverse, length, get_or, take, drop, replicate, vec_len, sym, refl, ap, ◌∙◌, subst, arith}
 use Rattle.std.proofs.lemmas.List.{drop-append-le, drop_all, drop-map, get_or-reverse, length-reverse, map_push, set_past, at_drop_more, at_drop_all}
 use Rattle.std.proofs.lemmas.Bool.{cond-false, le-ltb}
-use Rattle.judging.specs.Judging.{State, Fork, forked, joined, filtering, fork, no_fork, with_forks, used_at, uses_at, noted}
-use Rattle.typing.specs.Codes.{Under, starts, depths, fork_of, replay, note_of, state, holding}
-use Rattle.typing.specs.Holding.{held, known, LastFork}
+use Rattle.judging.specs.Judging.{Fork, forked, joined, no_fork, with_forks, used_at, uses_at, noted}
+use Rattle.typing.specs.Codes.{fork_of, replay, note_of, holding}
+use Rattle.typing.specs.Holding.{held, LastFork}
 use Rattle.typing.specs.declared.checker.Checker.{Checker}
 use Rattle.typing.specs.declared.parts.Fork.{Fork as Entry}
 use Rattle.typing.specs.declared.parts.Use.{Use}

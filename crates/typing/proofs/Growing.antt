@@ -1,5 +1,5 @@
 -- Each occurrence makes a state larger by little.
-use Rattle.std.proofs.Common.{◌≡◌, ℕ, zero, suc, ◌+◌, ◌-◌, ◌*◌, ◌^◌, ◌<◌, ◌≤◌, Bool, true, false, cond, leb, List, [], ◌∷◌, ◌++◌, reverse, length, get_or, take, drop, sym, refl, ap, ◌∙◌, subst, arith, length-drop, length-take}
+use Rattle.std.proofs.Common.{◌≡◌, ℕ, suc, ◌+◌, ◌*◌, ◌≤◌, Bool, true, false, cond, leb, List, [], ◌∷◌, ◌++◌, length, take, drop, sym, refl, ap, subst, arith, length-drop, length-take}
 use mathlib.Core.Option.{Option, none, some}
 use Rattle.std.proofs.lemmas.List.{length_push, length-reverse}
 use Rattle.types.specs.Types.{Ty, int, bool, pair, list, parts, same}
@@ -11,7 +11,7 @@ use Rattle.lang.specs.Outcome.{Out, ok, refused, then, refuse}
 use Rattle.lang.specs.Rules.{Verdict, gives, unfit, large, limit, infix_rule, pair_rule, index_rule, part_rule, unary_rule, fold_rule, empty_rule, list_rule}
 use Rattle.lang.specs.Scope.{Binding, bound}
 use Rattle.judging.specs.Notes.{Note, note}
-use Rattle.judging.specs.Judging.{State, Fork, top, popped, pushed, forked, fork, joined, uses_at, used_at, parts_used, counted_of, node_of, one, two, leaf, mark, fits, only, find, variable, each_fork, if_join, each_join, header, operands, step, begin}
+use Rattle.judging.specs.Judging.{State, Fork, top, popped, pushed, forked, fork, uses_at, parts_used, counted_of, node_of, one, two, leaf, mark, fits, find, variable, each_fork, if_join, each_join, operands, step, begin}
 use Rattle.typing.specs.Holding.{Room}
 
 -- what holds of an answer, if there is one

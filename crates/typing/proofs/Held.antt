@@ -1,12 +1,12 @@
 -- How the state that is held changes with the checker's entries.
-use Rattle.std.proofs.Common.{◌≡◌, ℕ, suc, ◌+◌, ◌-◌, ◌<◌, ◌≤◌, List, [], ◌∷◌, ◌++◌, map, reverse, length, get_or, take, drop, vec_items, sym, refl, ap, ◌∙◌, subst, arith}
+use Rattle.std.proofs.Common.{◌≡◌, ℕ, ◌-◌, ◌<◌, List, [], ◌∷◌, ◌++◌, map, reverse, length, get_or, take, vec_items, sym, ap, ◌∙◌, subst}
 use Rattle.std.proofs.lemmas.List.{map_push, drop-map, length-map, get_or_default}
-use Rattle.types.specs.Types.{Ty, int}
+use Rattle.types.specs.Types.{Ty}
 use Rattle.types.specs.Table.{Interned}
 use Rattle.lang.specs.Scope.{Binding as Bound, bound}
 use Rattle.judging.specs.Notes.{Note as Noted, note}
-use Rattle.judging.specs.Judging.{Fork as Opened, State, begin, pushed, popped, noted, weighing, entered, left}
-use Rattle.typing.specs.Codes.{Under, type_at, binding_of, note_of, fork_of, state, holding}
+use Rattle.judging.specs.Judging.{Fork as Opened, State, begin, pushed, popped, noted, entered, left}
+use Rattle.typing.specs.Codes.{type_at, binding_of, note_of, fork_of, state, holding}
 use Rattle.typing.specs.Holding.{held, known}
 use Rattle.typing.specs.declared.checker.Checker.{Checker}
 use Rattle.typing.specs.declared.parts.Binding.{Binding}

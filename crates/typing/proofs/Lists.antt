@@ -1,7 +1,7 @@
 -- Lists that grow at their end, read from there.
-use Rattle.std.proofs.Common.{◌≡◌, ℕ, zero, suc, ◌+◌, ◌-◌, ◌<◌, ◌≤◌, ◌⊎◌, List, [], ◌∷◌, ◌++◌, map, reverse, length, get_or, take, drop, sym, refl, ap, ◌∙◌, subst, inl, inr, suc-le-suc, arith, length-drop, length-take}
+use Rattle.std.proofs.Common.{◌≡◌, ℕ, suc, ◌+◌, ◌-◌, ◌<◌, ◌≤◌, ◌⊎◌, List, [], ◌∷◌, ◌++◌, map, reverse, length, get_or, take, drop, sym, refl, ap, ◌∙◌, subst, inl, inr, arith, length-drop, length-take}
 use lib.ListN.{length-reverse, length-map}
-use Rattle.std.proofs.lemmas.List.{append_assoc, map-append, reverse-append, take-append-drop, drop_at, drop_all, get_or_append_left, get_or_push, get_or_past, get_or_default, get_or-drop, get_or-take, get_or-map, get_or-reverse, length_push, map_push, take-map}
+use Rattle.std.proofs.lemmas.List.{reverse-append, take-append-drop, drop_at, drop_all, get_or_append_left, get_or_push, get_or_past, get_or_default, get_or-drop, get_or-take, get_or-map, get_or-reverse, length_push, map_push, take-map}
 use Rattle.std.proofs.lemmas.Bool.{cases_lt}
 use Rattle.typing.specs.Codes.{Under}
 

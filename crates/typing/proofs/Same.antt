@@ -1,6 +1,5 @@
 -- Names that are compared by their bytes.
-use Rattle.std.proofs.Common.{◌≡◌, ℕ, Bool, true, false, List, Decides, sym, refl, ap, ◌∙◌, ⊎_elim}
-use Rattle.std.proofs.lemmas.Bool.{cases_Bool, both_ways}
+use Rattle.std.proofs.Common.{◌≡◌, ℕ, Bool, true, false, List, Decides, sym, refl, ap, ◌∙◌}
 use Rattle.tokens.specs.declared.kind.Name.{Name}
 use Rattle.lang.specs.Scope.{same_name}
 use Rattle.lang.proofs.Names.{name_same, name_is}

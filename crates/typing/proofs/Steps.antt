@@ -1,22 +1,21 @@
 -- Steps of judging, over plain states.
-use Rattle.std.proofs.Common.{◌≡◌, ℕ, ◌+◌, ◌<◌, ◌≤◌, Bool, true, false, cond, leb, List, [], ◌∷◌, length, get_or, take, drop, sym, refl, ap, ◌∙◌, subst, arith, length-drop}
-use mathlib.Core.Option.{Option, none, some}
+use Rattle.std.proofs.Common.{◌≡◌, ℕ, ◌+◌, ◌<◌, ◌≤◌, Bool, true, false, cond, leb, List, [], ◌∷◌, drop, sym, refl, ap, ◌∙◌, subst, arith, length-drop}
+use mathlib.Core.Option.{Option, none}
 use Rattle.std.proofs.lemmas.Bool.{le-leb, lt-leb}
 use Rattle.tokens.specs.Faults.{Refusal}
-use Rattle.tokens.specs.declared.kind.Name.{Name}
 use Rattle.types.specs.Types.{Ty, int, bool, pair, list, parts, same, same_pair, same_list}
 use Rattle.types.specs.Entries.{counted}
 use Rattle.grammar.specs.declared.occurrence.Infix.{Infix}
 use Rattle.grammar.specs.declared.occurrence.What.{What}
-use Rattle.grammar.specs.declared.occurrence.Unary.TheVariants.{Fst, Snd, Len, Range, Flat}
+use Rattle.grammar.specs.declared.occurrence.Unary.TheVariants.{Range, Flat}
 use Rattle.lang.specs.Outcome.{Out, ok, refused, then, refuse}
 use Rattle.lang.specs.Expr.{answers, Op, part_op, scan_op, reduce_op, joined as joinedBy}
-use Rattle.lang.specs.Rules.{Verdict, gives, unfit, large, limit, limited, is, of_list, of_pair, infix_rule, index_rule, pair_rule, part_rule, unary_rule, empty_rule, fold_rule}
+use Rattle.lang.specs.Rules.{Verdict, gives, large, limit, limited, is, of_list, of_pair, infix_rule, index_rule, part_rule, unary_rule, fold_rule}
 use Rattle.types.proofs.Same.{same_self}
 use Rattle.grammar.specs.Tree.{Fold, scan, reduce}
 use Rattle.grammar.specs.declared.occurrence.Operation.{Operation}
 use Rattle.judging.specs.Notes.{note}
-use Rattle.judging.specs.Judging.{State, top, noted, weighing, pushed, popped, forked, joined, entered, left, mark, decide, counted_of, node_of, one, two, fits, only, step, variable, find, each_fork, header, fork, parts_used, uses_at, with_forks}
+use Rattle.judging.specs.Judging.{State, top, noted, weighing, pushed, popped, forked, joined, left, mark, decide, counted_of, node_of, one, two, fits, only, step, fork, parts_used}
 use Rattle.typing.specs.Holding.{NotList, NotPair, Is, Room, filter_of}
 
 pub not_list : (F : Ty → List Ty) (t : Ty) (v : (a : Ty) → Verdict (F (list a))) (p : ℕ) → NotList t → decide p (of_list F t v) ≡ refuse 6 p

@@ -1,7 +1,7 @@
 -- The parts of the variables that were used.
-use Rattle.std.proofs.Common.{◌≡◌, ℕ, zero, suc, ◌+◌, ◌-◌, ◌*◌, ◌<◌, ◌≤◌, Bool, true, false, cond, ltb, List, [], ◌∷◌, ◌++◌, map, reverse, length, get_or, take, drop, set, replicate, sym, refl, ap, ◌∙◌, subst, arith}
+use Rattle.std.proofs.Common.{◌≡◌, ℕ, ◌+◌, ◌-◌, ◌<◌, ◌≤◌, Bool, true, false, cond, ltb, List, [], ◌∷◌, map, reverse, length, get_or, take, drop, set, replicate, sym, refl, ap, ◌∙◌, arith}
 use Rattle.std.proofs.lemmas.List.{drop_more, drop_all, get_or_default, length-set, take_rest, length-replicate}
-use Rattle.types.specs.Types.{Ty, int}
+use Rattle.types.specs.Types.{Ty}
 use Rattle.types.specs.Entries.{counted}
 use Rattle.lang.specs.Scope.{Binding}
 use Rattle.judging.specs.Judging.{parts_used, used_at}

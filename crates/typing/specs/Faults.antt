@@ -1,5 +1,4 @@
 -- The number and the place of each refusal.
-use Rattle.std.specs.Prelude.{ℕ}
 use Rattle.tokens.specs.Faults.{Refusal}
 use Rattle.typing.specs.declared.fault.CheckFault.{CheckFault}
 use Rattle.typing.specs.declared.fault.CheckFault.TheVariants.{UnknownName, Unfit, TooLarge, WrongResult, TooHeavy}

@@ -1,5 +1,5 @@
 -- The state that the checker holds.
-use Rattle.std.specs.Prelude.{◌≡◌, ℕ, ◌+◌, ◌^◌, ◌<◌, ◌≤◌, Bool, true, false, cond, List, length, vec_items, vec_len, Result, MatchResult, nat_le}
+use Rattle.std.specs.Prelude.{◌≡◌, ℕ, ◌^◌, ◌<◌, ◌≤◌, Bool, true, false, cond, List, length, vec_items, vec_len, Result, MatchResult, nat_le}
 use Rattle.std.proofs.Math.Option.{none}
 use Rattle.types.specs.Types.{Ty, int, bool, pair, list, parts, same}
 use Rattle.types.specs.Table.{types_in, type_of}

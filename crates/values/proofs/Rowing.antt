@@ -1,11 +1,11 @@
 -- Reading rows, element by element.
-use Rattle.std.proofs.Common.{◌≡◌, ℕ, suc, ◌+◌, ◌-◌, ◌^◌, ◌<◌, ◌≤◌, Bool, true, false, List, [], ◌∷◌, ◌++◌, map, length, get_or, take, drop, IsErrAnd, Result, sym, refl, ap, ◌∙◌, subst, ap₂, inl, inr, ⊎_elim, append_assoc, append-nil, arith, length-append, length-drop, length-take, MatchResult}
+use Rattle.std.proofs.Common.{◌≡◌, ℕ, ◌+◌, ◌-◌, ◌^◌, ◌<◌, ◌≤◌, Bool, true, false, List, [], ◌∷◌, ◌++◌, length, get_or, take, drop, IsErrAnd, Result, sym, refl, ap, ◌∙◌, subst, ap₂, inl, inr, ⊎_elim, append_assoc, append-nil, arith, length-append, length-drop, MatchResult}
 use Rattle.std.proofs.lemmas.List.{take_rest, take_all, take_more, map_push, get_or-drop, get_or_past, length_push, length-take-le}
 use Rattle.std.proofs.lemmas.Result.{err_from_is_err_and}
 use Rattle.std.proofs.lemmas.Bool.{cases_lt}
 use Rattle.monoid.specs.Segments.{concat}
 use Rattle.monoid.specs.declared.int.Int.{Int}
-use Rattle.values.specs.Lists.{sign_of, ElementIs, NoElement, each_text, Opened}
+use Rattle.values.specs.Lists.{sign_of, ElementIs, each_text, Opened}
 use Rattle.values.specs.Reading.{ReadsFront, StopsAt, NoText}
 use Rattle.values.specs.Rows.{Stopping, fault_behind, StopsElement, AddsInt, AddsRow, AddsRowAt, Holds, ReadsRows, RowsRead}
 use Rattle.values.specs.declared.fault.ReadFault.{ReadFault}

@@ -1,5 +1,5 @@
 -- Reading a list: its elements one after the other, each with the sign behind it.
-use Rattle.std.specs.Prelude.{◌≡◌, ℕ, ◌+◌, ◌<◌, ◌≤◌, Bool, cond, ◌⊎◌, List, [], ◌∷◌, ◌++◌, length, take, ◌≢◌, slice_index}
+use Rattle.std.specs.Prelude.{◌≡◌, ℕ, ◌≤◌, Bool, cond, ◌⊎◌, List, [], ◌∷◌, ◌++◌, length, take, ◌≢◌, slice_index}
 use Rattle.values.specs.Reading.{ReadsFront, StopsAt}
 
 -- the sign behind an element: the bracket behind the last, else a comma

@@ -1,5 +1,5 @@
 -- Reading rows: what a step adds, and where it stops.
-use Rattle.std.specs.Prelude.{◌≡◌, ℕ, ◌+◌, Bool, true, false, List, [], ◌∷◌, ◌++◌, map, length, drop, Some, None, Option, ◌≢◌}
+use Rattle.std.specs.Prelude.{◌≡◌, ℕ, ◌+◌, Bool, List, [], ◌∷◌, ◌++◌, map, length, drop, Some, None, Option, ◌≢◌}
 use Rattle.monoid.specs.declared.int.Int.{Int}
 use Rattle.values.specs.declared.fault.ReadFault.{ReadFault}
 use Rattle.values.specs.declared.fault.ReadFault.TheVariants.{NoValue, Memory}

@@ -1,4 +1,4 @@
-use Rattle.std.proofs.Common.{◌≡◌, ◌+◌, ◌<◌, cond, eqb, ◌≢◌, length, get_or, ap, ◌∙◌, arith, get_or-set_other, get_or-set_same, below_more}
+use Rattle.std.proofs.Common.{◌+◌, ◌<◌, cond, eqb, ◌≢◌, length, get_or, ap, ◌∙◌, arith, get_or-set_other, get_or-set_same, below_more}
 use Rattle.std.proofs.lemmas.List.Sums.{sum_by_more}
 use Rattle.monoid.proofs.Segments.{upto}
 use Rattle.scan.proofs.segments.ends.Goals as goal

@@ -1,5 +1,5 @@
-use Rattle.std.proofs.Common.{◌≡◌, ◌+◌, ◌%◌, ◌^◌, ◌<◌, ◌≤◌, ◌≢◌, length, take, sym, refl, ap, ◌∙◌, arith, take_all, get_or-set_other, get_or-set_same, rules, below_more}
-use native.Mathlib.Nat.{mod-add-mod, add-mod-mod}
+use Rattle.std.proofs.Common.{◌≡◌, ◌+◌, ◌%◌, ◌^◌, ◌<◌, ◌≤◌, ◌≢◌, length, ap, ◌∙◌, arith, take_all, get_or-set_other, get_or-set_same, below_more}
+use native.Mathlib.Nat.{mod-add-mod}
 use Rattle.monoid.specs.Laws.{product}
 use Rattle.monoid.proofs.Products.{product_more}
 use Rattle.scan.proofs.sequential.left_to_right.Goals as goal

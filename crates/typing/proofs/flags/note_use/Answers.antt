@@ -1,4 +1,4 @@
-use Rattle.std.proofs.Common.{vec_items, refl, arith, rules}
+use Rattle.std.proofs.Common.{vec_items, refl, rules}
 use Rattle.typing.proofs.Forking.{used_past}
 use Rattle.typing.proofs.flags.note_use.Goals as goal
 

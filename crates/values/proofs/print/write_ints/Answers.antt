@@ -1,4 +1,4 @@
-use Rattle.std.proofs.Common.{◌≡◌, ◌≤◌, length, sym, refl, ◌∙◌, arith, length-set}
+use Rattle.std.proofs.Common.{◌≡◌, ◌≤◌, length, refl, ◌∙◌, arith, length-set}
 use Rattle.values.specs.Texts.{int_text, list_text}
 use Rattle.values.proofs.Printing.{empty-written, begin-written, element-fits, element-written, all-written}
 use Rattle.values.proofs.print.write_ints.Goals as goal

@@ -1,4 +1,3 @@
-use Rattle.std.proofs.Common.{◌≡◌, length}
 use Rattle.values.specs.Texts.{int_text}
 use Rattle.values.proofs.Printing.{Written}
 use Rattle.values.proofs.print.write_ints.Given as goal

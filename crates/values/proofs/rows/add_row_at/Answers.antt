@@ -1,4 +1,4 @@
-use Rattle.std.proofs.Common.{◌^◌, ◌<◌, List, [], ◌∷◌, ◌++◌, length, vec_items, sym, ap, ◌∙◌, subst, rules}
+use Rattle.std.proofs.Common.{◌^◌, ◌<◌, [], ◌∷◌, ◌++◌, length, vec_items, sym, ap, ◌∙◌, subst, rules}
 use Rattle.values.specs.Rows.{Stopping, StopsElement}
 use Rattle.values.specs.Texts.{row_text}
 use Rattle.values.proofs.Rowing.{at_sign, no_sign, behind_stops, behind_fits}

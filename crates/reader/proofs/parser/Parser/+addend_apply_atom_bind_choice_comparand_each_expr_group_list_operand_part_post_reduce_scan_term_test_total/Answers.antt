@@ -2,7 +2,7 @@ use Rattle.std.proofs.Common.{◌≡◌, true, false, ◌∷◌, vec_len, sym, r
 use Rattle.std.proofs.lemmas.Result.{MatchResult-weaker}
 use Rattle.tokens.specs.Kinds.{is_stop}
 use Rattle.grammar.specs.Tree.{scan, reduce, number, truth, variable}
-use Rattle.grammar.specs.Grammar.{expressions, tests, chains, sums, products, posts, atoms, operands, by_number, by_true, by_false, by_name}
+use Rattle.grammar.specs.Grammar.{expressions, tests, chains, sums, products, posts, by_number, by_true, by_false, by_name}
 use Rattle.grammar.specs.Law.{rest, links, indexes, items}
 use Rattle.grammar.proofs.Signs.{sign_passes, word_passes}
 use Rattle.grammar.proofs.Follow.{free_total, free_compared, free_links, free_atoms, free_items, free_closing, free_filter}

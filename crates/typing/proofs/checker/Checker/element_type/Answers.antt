@@ -1,4 +1,4 @@
-use Rattle.std.proofs.Common.{◌≡◌, ◌-◌, ◌<◌, map, reverse, length, get_or, take, sym, ap, ◌∙◌, subst, arith}
+use Rattle.std.proofs.Common.{◌-◌, ◌<◌, map, reverse, length, get_or, take, sym, ap, ◌∙◌, subst}
 use Rattle.lang.specs.Rules.{list_rule}
 use Rattle.judging.specs.Judging.{decide}
 use Rattle.typing.specs.Codes.{type_at}

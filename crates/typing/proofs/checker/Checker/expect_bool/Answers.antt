@@ -1,6 +1,5 @@
-use Rattle.std.proofs.Common.{◌≡◌, sym, refl, ap, ◌∙◌, subst}
-use mathlib.Core.Option.{none}
-use Rattle.types.specs.Types.{Ty, bool, same}
+use Rattle.std.proofs.Common.{refl}
+use Rattle.types.specs.Types.{bool}
 use Rattle.typing.proofs.Steps.{none_on}
 use Rattle.typing.proofs.checker.Checker.expect_bool.Goals as goal
 

@@ -1,4 +1,4 @@
-use Rattle.std.proofs.Common.{◌≡◌, sym, ◌∙◌, arith}
+use Rattle.std.proofs.Common.{sym, ◌∙◌, arith}
 use Rattle.typing.proofs.Finding.{not_there, there, passed}
 use Rattle.typing.proofs.checker.Checker.find.Goals as goal
 

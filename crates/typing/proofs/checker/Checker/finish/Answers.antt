@@ -1,4 +1,4 @@
-use Rattle.std.proofs.Common.{◌≡◌, sym, ◌∙◌}
+use Rattle.std.proofs.Common.{sym, ◌∙◌}
 use Rattle.typing.specs.Holding.{held}
 use Rattle.typing.proofs.Steps.{none_both}
 use Rattle.typing.proofs.Ending.{wrong_end, heavy_end, good_end}

@@ -1,4 +1,4 @@
-use Rattle.std.proofs.Common.{◌≡◌, ap, ◌∙◌}
+use Rattle.std.proofs.Common.{ap, ◌∙◌}
 use Rattle.judging.specs.Judging.{forked, popped, weighing}
 use Rattle.typing.specs.Holding.{held}
 use Rattle.typing.proofs.Steps.{if_fork_ok}

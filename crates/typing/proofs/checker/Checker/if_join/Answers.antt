@@ -1,4 +1,4 @@
-use Rattle.std.proofs.Common.{◌≡◌, sym, ap, ◌∙◌, arith}
+use Rattle.std.proofs.Common.{sym, ap, ◌∙◌, arith}
 use Rattle.types.specs.Entries.{counted}
 use Rattle.judging.specs.Judging.{weighing, mark, joined, popped}
 use Rattle.typing.specs.Holding.{held}

@@ -1,4 +1,4 @@
-use Rattle.std.proofs.Common.{vec_items, refl, ap, ◌∙◌, arith, rules}
+use Rattle.std.proofs.Common.{arith}
 use Rattle.typing.specs.Holding.{held}
 use Rattle.typing.proofs.Lists.{under_more, under_push_map}
 use Rattle.typing.proofs.Held.{intern_note, notes_long}

@@ -1,9 +1,8 @@
-use Rattle.std.proofs.Common.{◌≡◌, ℕ, ◌+◌, ◌-◌, ◌<◌, ◌≤◌, map, length, get_or, vec_items, vec_len, sym, refl, ap, ◌∙◌, subst, arith, rules}
-use Rattle.std.proofs.lemmas.List.{map_push, take-map}
-use Rattle.typing.specs.Holding.{held, known}
-use Rattle.typing.proofs.Lists.{under_push, under-take, under_more, under_at, under-take-map, under_push_map, top_there, top_past}
-use Rattle.typing.proofs.Held.{enter_held, leave_held, scope_long, forks_long, notes_long}
-use Rattle.typing.proofs.Forking.{open_held, close_held, filter_held, use_held}
+use Rattle.std.proofs.Common.{refl, arith, rules}
+use Rattle.typing.specs.Holding.{held}
+use Rattle.typing.proofs.Lists.{under_push_map}
+use Rattle.typing.proofs.Held.{scope_long, forks_long}
+use Rattle.typing.proofs.Forking.{open_held}
 use Rattle.typing.proofs.checker.Checker.open.Goals as goal
 
 pub push_reserved-requires : goal.push_reserved-requires

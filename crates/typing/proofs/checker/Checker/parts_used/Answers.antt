@@ -1,6 +1,6 @@
-use Rattle.std.proofs.Common.{◌≡◌, false, map, reverse, length, drop, replicate, vec_items, sym, refl, ap, ◌∙◌, subst, arith}
+use Rattle.std.proofs.Common.{map, reverse, length, drop, vec_items, sym, refl, ap, ◌∙◌, subst, arith}
 use Rattle.judging.specs.Judging.{parts_used}
-use Rattle.typing.specs.Codes.{Under, scope_codes, binding_of, replay}
+use Rattle.typing.specs.Codes.{Under, scope_codes, binding_of}
 use Rattle.typing.specs.Holding.{held, known}
 use Rattle.typing.proofs.Weighing.{flags_are, flags_long}
 use Rattle.typing.proofs.checker.Checker.parts_used.Goals as goal

@@ -1,4 +1,4 @@
-use Rattle.std.proofs.Common.{ap, ◌∙◌, arith}
+use Rattle.std.proofs.Common.{arith}
 use Rattle.grammar.specs.declared.occurrence.Unary.TheVariants.{Range}
 use Rattle.lang.specs.Rules.{unary_rule}
 use Rattle.typing.specs.Holding.{held}

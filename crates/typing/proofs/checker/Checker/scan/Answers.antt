@@ -1,9 +1,9 @@
 use Rattle.std.proofs.Common.{arith}
 use Rattle.std.proofs.lemmas.Result.{err_from_is_err_and}
-use Rattle.grammar.specs.Tree.{scan, reduce}
+use Rattle.grammar.specs.Tree.{scan}
 use Rattle.lang.specs.Rules.{fold_rule}
 use Rattle.typing.specs.Holding.{held}
-use Rattle.typing.proofs.Steps.{one_ok, one_no, scan_ok, reduce_ok, fold_no}
+use Rattle.typing.proofs.Steps.{one_ok, one_no, scan_ok, fold_no}
 use Rattle.typing.proofs.checker.Checker.scan.Goals as goal
 
 pub returns : goal.returns

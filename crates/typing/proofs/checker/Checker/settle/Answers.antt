@@ -1,6 +1,6 @@
-use Rattle.std.proofs.Common.{◌≡◌, ◌<◌, length, sym, ap, subst, arith, length-drop}
+use Rattle.std.proofs.Common.{◌<◌, length, sym, ap, subst, arith, length-drop}
 use Rattle.types.specs.Table.{types_in}
-use Rattle.typing.specs.Holding.{held, known}
+use Rattle.typing.specs.Holding.{held}
 use Rattle.typing.proofs.checker.Checker.settle.Goals as goal
 
 pub push-requires : goal.push-requires

@@ -1,4 +1,4 @@
-use Rattle.std.proofs.Common.{refl, arith, rules}
+use Rattle.std.proofs.Common.{refl, rules}
 use Rattle.typing.specs.Holding.{held}
 use Rattle.typing.proofs.checker.Checker.weigh.Goals as goal
 

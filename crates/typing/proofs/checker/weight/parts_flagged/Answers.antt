@@ -1,4 +1,4 @@
-use Rattle.std.proofs.Common.{◌≡◌, ℕ, ◌+◌, ◌-◌, ◌<◌, ◌≤◌, [], map, reverse, length, drop, sym, ap, ◌∙◌, zero-add, arith}
+use Rattle.std.proofs.Common.{◌≡◌, ℕ, ◌+◌, ◌-◌, ◌<◌, [], map, reverse, length, drop, ap, ◌∙◌, zero-add, arith}
 use Rattle.types.specs.Table.{types_in}
 use Rattle.judging.specs.Judging.{parts_used}
 use Rattle.typing.specs.Codes.{binding_of}
