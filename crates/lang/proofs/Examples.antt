@@ -9,4 +9,4 @@ use Rattle.lang.specs.Examples.{Examples}
 
 pub examples : Examples
 unfolding check elaborate written weight free
-examples = record { accepts = refl; inner_counts = refl; condition_first = refl; body_before_filter = refl; filter_first = refl; header-first = refl; declared_other = refl; too_many = refl }
+examples = record { accepts = refl; inner_counts = refl; condition_first = refl; body_before_filter = refl; filter_first = refl; header_first = refl; declared_other = refl; too_many = refl }

@@ -72,6 +72,6 @@ pub record Examples : Type 0 where
   pub condition_first : check int_for_bool ≡ refuse 6 18
   pub body_before_filter : check adds_a_bool ≡ refuse 6 25
   pub filter_first : check unknown_twice ≡ refuse 5 36
-  pub header-first : check deep_type ≡ refuse 7 7
+  pub header_first : check deep_type ≡ refuse 7 7
   pub declared_other : check other_type ≡ refuse 8 0
   pub too_many : check nine_elements ≡ refuse 7 20

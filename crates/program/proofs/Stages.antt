@@ -9,10 +9,10 @@ use Rattle.lang.specs.Check.{Checked, check}
 use Rattle.judging.specs.Judging.{State, judge, begin, finish}
 use Rattle.judging.specs.Acts.{Resolves}
 use Rattle.judging.specs.Occurrences.{program_occs}
-use Rattle.judging.specs.Laws.{Agree, Accepted, program_notes}
+use Rattle.judging.specs.Laws.{Accepted, AcceptedAlone, AgreeAlone, program_notes}
 use Rattle.lang.specs.Phrases.{Program as Phrase}
 use Rattle.lang.proofs.Derived.{derived}
-use Rattle.judging.proofs.Whole.{checked}
+use Rattle.judging.proofs.Whole.{alone}
 use Rattle.judging.proofs.Resolving.{resolving}
 use Rattle.reader.specs.Reading.{occurrences_of, Rejects}
 use Rattle.reader.specs.declared.fault.ReadFault.{ReadFault}
@@ -36,9 +36,9 @@ reading : {text : List ℕ} {os : List Occurrence} → Accepted-text text os →
 reading {text} a = let s = spelling a in record { text = text; tree = s.0; spells = s.1; is = s.2 }
 
 -- what judging comes to
-judged : {text : List ℕ} {tree : Tree} (os : List Occurrence) → Spells text tree → os ≡ occs tree → Agree (check tree) (then (judge os begin) finish)
+judged : {text : List ℕ} {tree : Tree} (os : List Occurrence) → Spells text tree → os ≡ occs tree → AgreeAlone (check tree) (then (judge os begin) finish)
 judged {tree = tree} os s e =
-    subst (λ t. os ≡ occs t → Agree (check t) (then (judge os begin) finish)) (sym s.is) (λ e. subst (λ l. Agree (check s.program.tree) (then (judge l begin) finish)) (sym e) (checked s.tokens 0 s.program.upto s.program.tree s.program.derives)) e
+    subst (λ t. os ≡ occs t → AgreeAlone (check t) (then (judge os begin) finish)) (sym s.is) (λ e. subst (λ l. AgreeAlone (check s.program.tree) (then (judge l begin) finish)) (sym e) (alone s.tokens 0 s.program.upto s.program.tree s.program.derives)) e
 
 -- and with their notes the occurrences are typed
 typing : {text : List ℕ} {tree : Tree} {os : List Occurrence} {c : Checked} {st : State} → Spells text tree → os ≡ occs tree → check tree ≡ ok c → Accepted c st →
@@ -48,11 +48,11 @@ typing {tree = tree} {os = os} {c = c} {st = st} s e h a =
     let r : Resolves (occs tree) (program_notes c) (program_occs c) = resolving tree p c h in
     subst (λ l. Resolves l st.notes (program_occs c)) (sym e) (subst (λ ns. Resolves (occs tree) ns (program_occs c)) (sym a.notes) r)
 
-agree_ok : (m : Out Checked) (s : State) → Agree m (ok s) → (c : Checked) × (m ≡ ok c) × Accepted c s
+agree_ok : (m : Out Checked) (s : State) → AgreeAlone m (ok s) → (c : Checked) × (m ≡ ok c) × AcceptedAlone c s
 agree_ok (ok c) s h = (c, refl, h)
 agree_ok (refused r) s h = absurd h
 
-agree_refused : (m : Out Checked) (r : Refusal) → Agree m (refused r) → m ≡ refused r
+agree_refused : (m : Out Checked) (r : Refusal) → AgreeAlone m (refused r) → m ≡ refused r
 agree_refused (ok c) r h = absurd h
 agree_refused (refused q) r h = ap refused h
 
@@ -63,15 +63,15 @@ tabled text t a few = let s = spelling a in record { read = ∣ reading a ∣₁
 module _ {text : List ℕ} {tree : Tree} {os : List Occurrence} (s : Spells text tree) (e : os ≡ occs tree) where
   accepted : (st : State) → then (judge os begin) finish ≡ ok st → (c : Checked) × (check tree ≡ ok c) × Holds os st c
   accepted st h =
-      let a = agree_ok (check tree) st (subst (Agree (check tree)) h (judged os s e)) in
-      (a.0, a.1, record { reads = record { text = text; tree = tree; spells = s; is = e }; checks = a.1; accepted = a.2; typed = typing s e a.1 a.2 })
+      let a = agree_ok (check tree) st (subst (AgreeAlone (check tree)) h (judged os s e)) in
+      (a.0, a.1, record { reads = record { text = text; tree = tree; spells = s; is = e }; checks = a.1; accepted = a.2.accepted; scope = a.2.scope; typed = typing s e a.1 a.2.accepted })
 
 -- occurrences that were judged
 pub accepts : {os : List Occurrence} (st : State) → then (judge os begin) finish ≡ ok st → Accepts os st
 accepts st h = record { each = λ text tree s e. accepted s e st h }
 
 pub refuses : {os : List Occurrence} (r : Refusal) → then (judge os begin) finish ≡ refused r → Refuses os r
-refuses {os} r h = record { each = λ text tree s e. agree_refused (check tree) r (subst (Agree (check tree)) h (judged os s e)) }
+refuses {os} r h = record { each = λ text tree s e. agree_refused (check tree) r (subst (AgreeAlone (check tree)) h (judged os s e)) }
 
 -- what was read and judged is a program
 pub sound : (os : List Occurrence) (st : State) → then (judge os begin) finish ≡ ok st → ∥ Reads os ∥₁ → ∥ ((c : Checked) × Holds os st c) ∥₁

@@ -1,5 +1,5 @@
 -- What a text comes to: a program, or the first refusal.
-use Rattle.std.specs.Prelude.{◌≡◌, ℕ, ◌≤◌, ◌⊎◌, List, length}
+use Rattle.std.specs.Prelude.{◌≡◌, ℕ, ◌≤◌, ◌⊎◌, List, length, [], ◌∷◌}
 use Rattle.tokens.specs.declared.kind.Token.{Token}
 use Rattle.tokens.specs.Cutting.{Cuts}
 use Rattle.tokens.specs.Faults.{Refusal}
@@ -8,6 +8,7 @@ use Rattle.grammar.specs.Tree.{Tree, occs}
 use Rattle.grammar.specs.Grammar.{Program}
 use Rattle.lang.specs.Outcome.{Out, ok, refused}
 use Rattle.lang.specs.Check.{Checked, check}
+use Rattle.lang.specs.Scope.{kinds}
 use Rattle.judging.specs.Judging.{State}
 use Rattle.judging.specs.Acts.{Resolves}
 use Rattle.judging.specs.Occurrences.{program_occs}
@@ -45,4 +46,5 @@ pub record Holds (os : List Occurrence) (s : State) (c : Checked) : Type 0 where
   pub reads : Reads os
   pub checks : check reads.tree ≡ ok c
   pub accepted : Accepted c s
+  pub scope : kinds s.scope ≡ c.parameter ∷ []
   pub typed : Resolves os s.notes (program_occs c)

@@ -21,7 +21,7 @@ one_value = value_same
 
 -- the bytes that were printed
 first_bytes : (text : List ℕ) (m : ℕ) (out out' : List ℕ) → Printed text m out out' → take m out' ≡ text
-first_bytes text m out out' p = ap₂ (λ (i : ℕ) (t : List ℕ). take i t) p.length-is p.written ∙ take_at text (drop (length text) out) (length text) refl
+first_bytes text m out out' p = ap₂ (λ (i : ℕ) (t : List ℕ). take i t) p.length_is p.written ∙ take_at text (drop (length text) out) (length text) refl
 
 module _ (t : Ty) (v : Val t) (s : List ℕ) (is : s ≡ value_text t v) (room room' : List Int) (fits : size t v ≤ length room) where
   back : (r : Result ℕ ReadFault) → Reads t s room room' r → (r ≡ Ok (size t v)) × (room' ≡ cells t v ++ drop (size t v) room)

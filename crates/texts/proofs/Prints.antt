@@ -60,7 +60,7 @@ module _ (t : Ty) (v : Val t) (cs : List Int) (holds : Holds t v cs) where
     seen = ap (λ k. k ++ out) (nil_from_length o' none)
 
     pub short : length (o' ++ out) < first.place → Short (value_text t v) first.place out (o' ++ out)
-    short less = record { length-is = needed_is first o o' counts; less = subst (λ k. length k < first.place) seen less; same = seen }
+    short less = record { length_is = needed_is first o o' counts; less = subst (λ k. length k < first.place) seen less; same = seen }
 
     pub printed : (to : Pen) (out' : List ℕ) → first.place ≤ length (o' ++ out) → Writes t cs start to (o' ++ out) out' → Printed (value_text t v)
         to.place out out'
@@ -68,7 +68,7 @@ module _ (t : Ty) (v : Val t) (cs : List Int) (holds : Holds t v cs) where
         let long = needed_is first o o' counts in
         let here : Writes t cs start to out out' = subst (λ k. Writes t cs start to k out') seen writes in
         record {
-          length-is = needed_is to out out' here;
+          length_is = needed_is to out out' here;
           written = (here v held).written ∙ sets-eq (value_text t v) out 0 (omega (arith, long, ap length seen)) ∙ ap (λ n. value_text t v ++ drop n out)
               (zero-add (length (value_text t v)));
         }

@@ -6,19 +6,9 @@ use Rattle.monoid.specs.Ints.{width}
 use Rattle.types.specs.Types.{Ty}
 use Rattle.lang.specs.Values.{Val, size}
 use Rattle.lang.specs.Layout.{cells}
+use Rattle.values.specs.Printing.{Printed, Short}
 use Rattle.texts.specs.declared.fault.PrintFault.{PrintFault}
 use Rattle.texts.specs.Texts.{value_text}
-
--- the text stands first in the output, further bytes are as they were, and n is its length
-pub record Printed (text : List ℕ) (n : ℕ) (out out' : List ℕ) : Type 0 where
-  pub length-is : n ≡ length text
-  pub written : out' ≡ text ++ drop (length text) out
-
--- the output has no room for the text, whose length is needed, and is as it was
-pub record Short (text : List ℕ) (needed : ℕ) (out out' : List ℕ) : Type 0 where
-  pub length-is : needed ≡ length text
-  pub less : length out < needed
-  pub same : out' ≡ out
 
 -- the first cells are those of v, and an int can count them
 pub record Holds (t : Ty) (v : Val t) (cs : List Int) : Type 0 where

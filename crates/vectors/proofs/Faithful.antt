@@ -24,9 +24,9 @@ same_count m n h l e =
     cc
 
 -- an int that stands for a length is read as that length
-pub length-is : (x : Int) (n : ℕ) → Countable n → x ≡ count n → (r : Option ℕ) → IsLength x r → r ≡ Some n
-length-is x n h e (Some m) is = let z : pos m ≡ pos n = sym is ∙ ap (λ y. y.value) e ∙ count-is n h in cc
-length-is x n h e None is = let z : x.value ≡ pos n = ap (λ y. y.value) e ∙ count-is n h in absurd (omega (arith, ints))
+pub length_is : (x : Int) (n : ℕ) → Countable n → x ≡ count n → (r : Option ℕ) → IsLength x r → r ≡ Some n
+length_is x n h e (Some m) is = let z : pos m ≡ pos n = sym is ∙ ap (λ y. y.value) e ∙ count-is n h in cc
+length_is x n h e None is = let z : x.value ≡ pos n = ap (λ y. y.value) e ∙ count-is n h in absurd (omega (arith, ints))
 
 same_flag : (b c : Bool) → flag b ≡ flag c → b ≡ c
 same_flag true true e = refl

@@ -14,7 +14,7 @@ use Rattle.vectors.specs.Walking.{IsLength}
 use Rattle.vectors.specs.Placing.{entries}
 use Rattle.vectors.specs.Gathering.{left, Takes, Puts, Carries, Gathered, Gathers, GathersAll}
 use Rattle.vectors.proofs.Sums.{number, celled, few, sum-append, length_each, each_append, element}
-use Rattle.vectors.proofs.Faithful.{length-is}
+use Rattle.vectors.proofs.Faithful.{length_is}
 use Rattle.vectors.proofs.Writing.{written_none, written-written, length-written}
 use Rattle.vectors.proofs.Walking.{never_none}
 use Rattle.vectors.proofs.Entries.{took, put_is}
@@ -99,7 +99,7 @@ module _ (a : Ty) (ints : List Int) (spans spans₁ : List Span) (out : List Int
       let lens = map (λ (w : List (Val a)). count (length w)) ws in
       let t = took ints spans (Some x) spans₁ takes (count (length v)) lens (vectors a (v ++ concat ws)) is in
       let same : x ≡ count (length v) = let q = t.is in cc in
-      let long : length v ≡ n = let q = length-is x (length v) (omega (arith, few a v)) same (Some n) isLength in cc in
+      let long : length v ≡ n = let q = length_is x (length v) (omega (arith, few a v)) same (Some n) isLength in cc in
       let halves : left ints ls ++ left ints rs ≡ (lens ∷ []) ++ vectors a (v ++ concat ws) = sym (map-append (entries ints) ls rs)
       ∙ ap (left ints) (sym split) ∙ t.leaves in
       let first : left ints ls ≡ lens ∷ [] = sym (take_at (left ints ls) (left ints rs) 1 (length-map ls (entries ints) ∙ one))
@@ -123,7 +123,7 @@ module _ (a : Ty) (ints : List Int) (spans spans₁ : List Span) (out : List Int
   not_a_length x spans' out' takes isLength v ws small fits is room =
       let t = took ints spans (Some x) spans₁ takes (count (length v)) _ _ is in
       let same : x ≡ count (length v) = let q = t.is in cc in
-      absurd (never_none _ (sym (length-is x (length v) (omega (arith, few a v)) same None isLength)))
+      absurd (never_none _ (sym (length_is x (length v) (omega (arith, few a v)) same None isLength)))
 
   pub no_place : (x : Int) (spans' : List Span) (out' : List Int) → Puts out to x None out' → Gathers (list a) ints spans out to None spans' out'
   no_place x spans' out' puts v ws small fits is room = absurd (omega (arith, puts.0))

@@ -22,8 +22,8 @@ gather_value-returns-then-spans-mid t c =
     gathers_at _ (pair a b) _ _ _ _ _ _ _ c.in-Pair.ensures.2
     (few_spans a b c.args.ints.now c.args.spans.now _ _ (omega (arith, c.if-spans-mid.true, c.parts-mid.ensures)))
 
-pub gather_value-returns-in_err-half : goal.gather_value-returns-in_err-half
-gather_value-returns-in_err-half t c =
+pub gather_value-returns-in_err-half-in-Pair : goal.gather_value-returns-in_err-half-in-Pair
+gather_value-returns-in_err-half-in-Pair t c =
     let a = type_of c.args.types.now c.in-Pair.a in
     let b = type_of c.args.types.now c.in-Pair.b in
     let spans = c.args.spans.now in
@@ -31,10 +31,10 @@ gather_value-returns-in_err-half t c =
     fails_at _ (pair a b) _ spans _ _ _ _ _ c.in-Pair.ensures.2 c.from_residual.ensures
     (first_fails a b c.args.ints.now spans (take m spans) (drop m spans) (sym (take-append-drop m spans))
     (length-take-le m spans c.if-spans-mid.false ∙ c.parts-mid.ensures)
-    c.args.out.now c.args.to _ c.gather_value.new.spans _ c.in_err-half.ensures)
+    c.args.out.now c.args.to _ c.gather_value.new.spans _ c.in_err-half-in-Pair.ensures)
 
-pub gather_value-returns-in_ok-half : goal.gather_value-returns-in_ok-half
-gather_value-returns-in_ok-half t c =
+pub gather_value-returns-in_ok-half-in-Pair : goal.gather_value-returns-in_ok-half-in-Pair
+gather_value-returns-in_ok-half-in-Pair t c =
     let a = type_of c.args.types.now c.in-Pair.a in
     let b = type_of c.args.types.now c.in-Pair.b in
     let spans = c.args.spans.now in
@@ -49,43 +49,43 @@ gather_value-returns-in_ok-half t c =
     let ends : put_mid m (length all - m) all rs ≡ ls ++ rs = lent_behind m all rs within ∙ ap (λ xs. xs ++ rs) (take_at ls (drop m spans) m long) in
     gathers_at _ (pair a b) _ _ _ _ _ _ _ c.in-Pair.ensures.2
     (pair_gathers a b c.args.ints.now spans (take m spans) (drop m spans) (sym (take-append-drop m spans)) (mid ∙ c.parts-mid.ensures)
-    c.args.out.now c.args.to c.in_ok-half.half c.gather_value.new.out ls rs _ _ _ ends c.in_ok-half.ensures
-    (subst (λ xs. Gathers b c.args.ints.now xs c.gather_value.new.out c.in_ok-half.half c.gather_value-in-Pair.result rs
+    c.args.out.now c.args.to c.in_ok-half-in-Pair.half c.gather_value.new.out ls rs _ _ _ ends c.in_ok-half-in-Pair.ensures
+    (subst (λ xs. Gathers b c.args.ints.now xs c.gather_value.new.out c.in_ok-half-in-Pair.half c.gather_value-in-Pair.result rs
     c.gather_value-in-Pair.new.out) rest c.gather_value-in-Pair.ensures))
 
-pub gather_value-returns-in_err-entry : goal.gather_value-returns-in_err-entry
-gather_value-returns-in_err-entry t c =
+pub gather_value-returns-in_err-entry-in-List : goal.gather_value-returns-in_err-entry-in-List
+gather_value-returns-in_err-entry-in-List t c =
     let a = type_of c.args.types.now c.in-List.element in
-    fails_at _ (list a) _ _ _ _ _ _ _ c.in-List.ensures.1 c.from_residual-in_err-entry.ensures
-    (no_more a c.args.ints.now c.args.spans.now c.next.new.spans _ _ _ _ c.in_err-entry.ensures)
+    fails_at _ (list a) _ _ _ _ _ _ _ c.in-List.ensures.1 c.from_residual-in_err-entry-in-List.ensures
+    (no_more a c.args.ints.now c.args.spans.now c.next.new.spans _ _ _ _ c.in_err-entry-in-List.ensures)
 
-pub gather_value-returns-in_err-count : goal.gather_value-returns-in_err-count
-gather_value-returns-in_err-count t c =
+pub gather_value-returns-in_err-count-in-List : goal.gather_value-returns-in_err-count-in-List
+gather_value-returns-in_err-count-in-List t c =
     let a = type_of c.args.types.now c.in-List.element in
-    fails_at _ (list a) _ _ _ _ _ _ _ c.in-List.ensures.1 c.from_residual-in_err-count.ensures
-    (not_a_length a c.args.ints.now c.args.spans.now c.next.new.spans _ _ c.in_ok-entry.entry _ _
-    c.in_ok-entry.ensures c.in_err-count.ensures)
+    fails_at _ (list a) _ _ _ _ _ _ _ c.in-List.ensures.1 c.from_residual-in_err-count-in-List.ensures
+    (not_a_length a c.args.ints.now c.args.spans.now c.next.new.spans _ _ c.in_ok-entry-in-List.entry _ _
+    c.in_ok-entry-in-List.ensures c.in_err-count-in-List.ensures)
 
-pub gather_value-returns-in_err-inside : goal.gather_value-returns-in_err-inside
-gather_value-returns-in_err-inside t c =
+pub gather_value-returns-in_err-inside-in-List : goal.gather_value-returns-in_err-inside-in-List
+gather_value-returns-in_err-inside-in-List t c =
     let a = type_of c.args.types.now c.in-List.element in
-    fails_at _ (list a) _ _ _ _ _ _ _ c.in-List.ensures.1 c.from_residual-in_err-inside.ensures
-    (no_place a c.args.ints.now c.args.spans.now c.next.new.spans _ _ c.in_ok-entry.entry _ _
-    c.in_err-inside.ensures)
+    fails_at _ (list a) _ _ _ _ _ _ _ c.in-List.ensures.1 c.from_residual-in_err-inside-in-List.ensures
+    (no_place a c.args.ints.now c.args.spans.now c.next.new.spans _ _ c.in_ok-entry-in-List.entry _ _
+    c.in_err-inside-in-List.ensures)
 
-pub gather_value-returns-in_ok-inside : goal.gather_value-returns-in_ok-inside
-gather_value-returns-in_ok-inside t c =
+pub gather_value-returns-in_ok-inside-in-List : goal.gather_value-returns-in_ok-inside-in-List
+gather_value-returns-in_ok-inside-in-List t c =
     let a = type_of c.args.types.now c.in-List.element in
     let spans : List Span = c.next.new.spans in
     let rs : List Span = c.gather_values.new.spans in
-    let one : 1 ≤ length spans = omega (arith, c.next.auto.spans, c.in_ok-entry.ensures.0) in
+    let one : 1 ≤ length spans = omega (arith, c.next.auto.spans, c.in_ok-entry-in-List.ensures.0) in
     gathers_at _ (list a) _ _ _ _ _ _ _ c.in-List.ensures.1
-    (list_gathers a c.args.ints.now c.args.spans.now spans c.args.out.now c.args.to c.in_ok-entry.entry
-    c.in_ok-count.count c.in_ok-inside.inside
+    (list_gathers a c.args.ints.now c.args.spans.now spans c.args.out.now c.args.to c.in_ok-entry-in-List.entry
+    c.in_ok-count-in-List.count c.in_ok-inside-in-List.inside
     c.put.new.out (take 1 spans) (drop 1 spans) rs _ _ _ (sym (take-append-drop 1 spans)) (length-take-le 1 spans one)
     (lent_behind 1 spans rs one)
-    c.in_ok-entry.ensures c.in_ok-count.ensures c.in_ok-inside.ensures
-    (subst (λ xs. GathersAll a c.in_ok-count.count c.args.ints.now xs c.put.new.out c.in_ok-inside.inside
+    c.in_ok-entry-in-List.ensures c.in_ok-count-in-List.ensures c.in_ok-inside-in-List.ensures
+    (subst (λ xs. GathersAll a c.in_ok-count-in-List.count c.args.ints.now xs c.put.new.out c.in_ok-inside-in-List.inside
     c.gather_values.result rs c.gather_values.new.out) (take_rest spans 1) c.gather_values.ensures))
 
 pub gather_values-loop-init : goal.gather_values-loop-init

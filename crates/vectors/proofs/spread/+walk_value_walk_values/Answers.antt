@@ -14,40 +14,40 @@ pub walk_value-returns-in-Bool : goal.walk_value-returns-in-Bool
 walk_value-returns-in-Bool t c =
     at_type _ bool _ _ c.args.walk _ _ _ c.in-Bool.ensures (bool_walks _ _ c.args.walk _ _ _ c.step-in-Bool.ensures)
 
-pub walk_value-returns-in_err-half : goal.walk_value-returns-in_err-half
-walk_value-returns-in_err-half t c =
+pub walk_value-returns-in_err-half-in-Pair : goal.walk_value-returns-in_err-half-in-Pair
+walk_value-returns-in_err-half-in-Pair t c =
     let a = type_of c.args.types.now c.in-Pair.a in
     let b = type_of c.args.types.now c.in-Pair.b in
     stops_at_type _ (pair a b) _ _ c.args.walk _ _ _ c.in-Pair.ensures.2 c.from_residual.ensures
-    (half_stops a b _ _ c.args.walk _ _ c.in_err-half.ensures)
+    (half_stops a b _ _ c.args.walk _ _ c.in_err-half-in-Pair.ensures)
 
-pub walk_value-returns-in_ok-half : goal.walk_value-returns-in_ok-half
-walk_value-returns-in_ok-half t c =
+pub walk_value-returns-in_ok-half-in-Pair : goal.walk_value-returns-in_ok-half-in-Pair
+walk_value-returns-in_ok-half-in-Pair t c =
     let a = type_of c.args.types.now c.in-Pair.a in
     let b = type_of c.args.types.now c.in-Pair.b in
     at_type _ (pair a b) _ _ c.args.walk _ _ _ c.in-Pair.ensures.2
     (pair_walks a b _ c.past.result _ c.args.walk _
     (subst (λ n. Past c.args.wanted n c.past.result) c.parts.ensures c.past.ensures)
-    c.in_ok-half.half _ _ _ c.in_ok-half.ensures c.walk_value-in-Pair.ensures)
+    c.in_ok-half-in-Pair.half _ _ _ c.in_ok-half-in-Pair.ensures c.walk_value-in-Pair.ensures)
 
-pub walk_value-returns-in_err-count : goal.walk_value-returns-in_err-count
-walk_value-returns-in_err-count t c =
+pub walk_value-returns-in_err-count-in-List : goal.walk_value-returns-in_err-count-in-List
+walk_value-returns-in_err-count-in-List t c =
     let a = type_of c.args.types.now c.in-List.element in
-    stops_at_type _ (list a) _ _ c.args.walk _ _ _ c.in-List.ensures.1 c.from_residual-in_err-count.ensures
-    (no_length a _ _ c.args.walk _ c.in_err-count.ensures)
+    stops_at_type _ (list a) _ _ c.args.walk _ _ _ c.in-List.ensures.1 c.from_residual-in_err-count-in-List.ensures
+    (no_length a _ _ c.args.walk _ c.in_err-count-in-List.ensures)
 
-pub walk_value-returns-in_err-inside : goal.walk_value-returns-in_err-inside
-walk_value-returns-in_err-inside t c =
+pub walk_value-returns-in_err-inside-in-List : goal.walk_value-returns-in_err-inside-in-List
+walk_value-returns-in_err-inside-in-List t c =
     let a = type_of c.args.types.now c.in-List.element in
-    stops_at_type _ (list a) _ _ c.args.walk _ _ _ c.in-List.ensures.1 c.from_residual-in_err-inside.ensures
-    (list_stops a _ _ c.args.walk _ _ c.in_err-inside.ensures)
+    stops_at_type _ (list a) _ _ c.args.walk _ _ _ c.in-List.ensures.1 c.from_residual-in_err-inside-in-List.ensures
+    (list_stops a _ _ c.args.walk _ _ c.in_err-inside-in-List.ensures)
 
-pub walk_value-returns-in_ok-inside : goal.walk_value-returns-in_ok-inside
-walk_value-returns-in_ok-inside t c =
+pub walk_value-returns-in_ok-inside-in-List : goal.walk_value-returns-in_ok-inside-in-List
+walk_value-returns-in_ok-inside-in-List t c =
     let a = type_of c.args.types.now c.in-List.element in
     at_type _ (list a) _ _ c.args.walk _ _ _ c.in-List.ensures.1
-    (list_walks a _ _ c.args.walk _ c.in_ok-count.count c.past-in-List.result c.in_ok-inside.inside _ _ _
-    c.past-in-List.ensures c.in_ok-count.ensures c.in_ok-inside.ensures c.walk_values.ensures)
+    (list_walks a _ _ c.args.walk _ c.in_ok-count-in-List.count c.past-in-List.result c.in_ok-inside-in-List.inside _ _ _
+    c.past-in-List.ensures c.in_ok-count-in-List.ensures c.in_ok-inside-in-List.ensures c.walk_values.ensures)
 
 pub walk_values-loop-init : goal.walk_values-loop-init
 walk_values-loop-init t c = walked_none (type_of c.args.types.now c.args.code) _ _ _ c.args.start _

@@ -8,7 +8,7 @@ returns-in_err-judge c =
     fails _ _ _ c.from_residual-in_err-judge.ensures.1 (refused_as c.in_err-judge.field-0.0 c.in_ok-fill.ensures c.in_err-judge.ensures, refl)
 
 pub invariant_of-self : goal.invariant_of-self
-invariant_of-self c = (swapped_sound c.swap.ensures.x-after c.swap-2.ensures.x-after c.in_ok-judge.ensures.0, tt)
+invariant_of-self c = record { sound = swapped_sound c.swap.ensures.x_after c.swap-2.ensures.x_after c.in_ok-judge.ensures.0 }
 
 pub returns : goal.returns
-returns c = swapped_loaded _ c.swap.ensures.x-after c.swap-2.ensures.x-after c.in_ok-fill.ensures c.in_ok-judge.ensures.1
+returns c = swapped_loaded _ c.swap.ensures.x_after c.swap-2.ensures.x_after c.in_ok-fill.ensures c.in_ok-judge.ensures.1
