@@ -9,7 +9,7 @@ use Rattle.types.specs.Types.{Ty, list}
 use Rattle.lang.specs.Values.{Val, sum_by, size}
 use Rattle.lang.specs.Layout.{flag, count}
 use Rattle.rules.specs.Environment.{Env}
-use Rattle.rules.specs.Eval.{refusal}
+use Rattle.rules.specs.Outcome.{refusal}
 use Rattle.rules.specs.Run.{Run, go, charge, branch, test}
 use Rattle.rules.specs.Joining.{HouseJoin}
 use Rattle.plan.specs.declared.table.Mark.TheVariants.{IfFork, IfElse, IfJoin, EachFork, EachJoin}

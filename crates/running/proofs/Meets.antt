@@ -4,7 +4,7 @@ use Rattle.std.proofs.lemmas.Bool.{lt-ltb, cond-true}
 use Rattle.monoid.specs.declared.int.Int.{Int}
 use Rattle.tokens.specs.Faults.{Refusal}
 use Rattle.rules.specs.Outcome.{Outcome as Answer, ok, fail}
-use Rattle.rules.specs.Eval.{refusal}
+use Rattle.rules.specs.Outcome.{refusal}
 use Rattle.rules.specs.Run.{Run, go, charge, charged, spent}
 use Rattle.rules.specs.Joining.{HouseJoin}
 use Rattle.plan.specs.declared.table.Mark.{Mark}

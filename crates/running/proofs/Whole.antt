@@ -7,7 +7,7 @@ use Rattle.types.specs.Types.{Ty}
 use Rattle.lang.specs.Values.{Val}
 use Rattle.rules.specs.Joining.{HouseJoin}
 use Rattle.rules.specs.Outcome.{Work, fail}
-use Rattle.rules.specs.Eval.{refusal}
+use Rattle.rules.specs.Outcome.{refusal}
 use Rattle.plan.specs.declared.table.Entry.{Entry}
 use Rattle.plan.specs.declared.table.Free.{Free}
 use Rattle.running.specs.declared.outcome.Outcome.{Outcome}

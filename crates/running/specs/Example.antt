@@ -8,7 +8,7 @@ use Rattle.lang.specs.Layout.{count}
 use Rattle.rules.specs.Environment.{Env}
 use Rattle.rules.specs.Joining.{HouseJoin}
 use Rattle.rules.specs.Outcome.{ok, fail}
-use Rattle.rules.specs.Eval.{refusal}
+use Rattle.rules.specs.Outcome.{refusal}
 use Rattle.rules.specs.Direct.{direct}
 use Rattle.plan.specs.declared.table.Task.TheVariants.{Operate, Length}
 use Rattle.plan.specs.declared.table.Mark.{Mark}
