@@ -1,9 +1,9 @@
 -- The loop over the flags of the variables in scope, and numbers as ints.
-use Rattle.std.proofs.Common.{◌≡◌, ℕ, suc, ◌+◌, ◌-◌, ◌%◌, ◌^◌, ◌<◌, ◌≤◌, Bool, true, false, cond, List, [], ◌∷◌, ◌++◌, reverse, length, get_or, drop, ℤ, pos, sym, refl, ap, ◌∙◌, mod-eq_of_lt, add-one, arith, to_z, of_z}
+use Rattle.std.proofs.Common.{◌≡◌, ℕ, ◌+◌, ◌-◌, ◌^◌, ◌<◌, ◌≤◌, Bool, true, false, cond, List, [], ◌∷◌, ◌++◌, reverse, length, get_or, drop, ℤ, pos, sym, ap, ◌∙◌, mod-eq_of_lt, add-one, arith, to_z, of_z}
 use mir.Val.{bits}
 use Rattle.std.specs.Int.{int_wrap}
 use Rattle.std.proofs.lemmas.Int.{of_z-to_z}
-use Rattle.std.proofs.lemmas.List.{append_assoc, append-nil, drop_more, drop_all, get_or-reverse, length-reverse, length-append}
+use Rattle.std.proofs.lemmas.List.{append_assoc, drop_more, drop_all, get_or-reverse, length-reverse, length-append}
 use Rattle.monoid.specs.Ints.{width}
 use Rattle.plan.specs.declared.table.Free.{Free}
 use Rattle.plan.specs.Filling.{gathered}

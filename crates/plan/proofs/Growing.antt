@@ -1,12 +1,12 @@
 -- One occurrence adds at most one to each part of a table, and the free variables only become more.
-use Rattle.std.proofs.Common.{◌≡◌, ℕ, suc, ◌+◌, ◌-◌, ◌<◌, ◌≤◌, Bool, List, [], ◌∷◌, ◌++◌, map, length, get_or, drop, set, Some, None, Option, sym, refl, ap, ◌∙◌, subst, arith}
+use Rattle.std.proofs.Common.{◌≡◌, ℕ, ◌+◌, ◌-◌, ◌<◌, ◌≤◌, Bool, List, [], ◌∷◌, length, drop, Some, None, Option, sym, refl, ap, ◌∙◌, subst, arith}
 use Rattle.std.proofs.lemmas.List.{length-append, length-set, length-drop}
 use Rattle.types.specs.Types.{Ty}
 use Rattle.judging.specs.Acts.{Act, TypedOccurrence}
 use Rattle.plan.specs.declared.table.Mark.{Mark}
 use Rattle.plan.specs.declared.table.Span.{Span}
 use Rattle.plan.specs.declared.fork.Fork.{Fork}
-use Rattle.plan.specs.Filling.{Filling, empty, entry, put, added, entered, left, used, opened, halved, fork, since, spanned, collected, filtered, chosen, swept, if_joined, each_joined, step, one, run}
+use Rattle.plan.specs.Filling.{Filling, empty, entry, put, added, entered, left, used, opened, halved, fork, since, spanned, collected, filtered, swept, if_joined, each_joined, step, one, run}
 use Rattle.plan.specs.Holding.{Room}
 
 pub record Steps (s t : Filling) : Type 0 where

@@ -1,6 +1,6 @@
 -- How the table that is held changes with the parts of a plan.
-use Rattle.std.proofs.Common.{◌≡◌, ℕ, ◌+◌, ◌-◌, ◌<◌, ◌≤◌, Bool, List, [], ◌∷◌, ◌++◌, reverse, length, get_or, take, drop, set, Some, None, vec_items, vec_len, Option, sym, refl, ap, ◌∙◌, arith}
-use Rattle.std.proofs.lemmas.List.{length-reverse, get_or-reverse, get_or_default, get_or_past, set_past, length-set}
+use Rattle.std.proofs.Common.{◌≡◌, ℕ, ◌-◌, ◌<◌, ◌≤◌, Bool, List, [], ◌∷◌, ◌++◌, reverse, length, get_or, take, drop, sym, ap, ◌∙◌, arith}
+use Rattle.std.proofs.lemmas.List.{length-reverse, get_or-reverse, get_or_default, get_or_past}
 use Rattle.typing.specs.declared.parts.Use.{Use}
 use Rattle.typing.proofs.Lists.{reverse_push, reverse-take}
 use Rattle.plan.specs.declared.table.Entry.{Entry}

@@ -6,7 +6,7 @@ use Rattle.plan.specs.declared.table.Mark.{Mark}
 use Rattle.plan.specs.declared.table.Entry.{Entry}
 use Rattle.plan.specs.declared.table.Free.{Free}
 use Rattle.plan.specs.declared.fork.Fork.{Fork}
-use Rattle.plan.specs.Filling.{Filling, filling, entry, gathered, flagged, if_joined, each_joined}
+use Rattle.plan.specs.Filling.{filling, entry, gathered, flagged, if_joined, each_joined}
 use Rattle.plan.proofs.Blocks.{span}
 
 -- an entry is replaced

@@ -14,7 +14,7 @@ use Rattle.plan.specs.declared.table.Free.{Free}
 use Rattle.plan.specs.declared.fork.Fork.{Fork}
 use Rattle.plan.specs.Boxes.{boxed, task_of}
 use Rattle.plan.specs.Filling.{Filling, filling, entry, added, step, one, run}
-use Rattle.plan.proofs.Blocks.{its, end, ends, forked, forkeds, past, block, blocks, block_ends, blocks_end, uses_in, uses_of}
+use Rattle.plan.proofs.Blocks.{its, end, ends, forked, forkeds, past, block, blocks, block_ends, uses_in, uses_of}
 use Rattle.plan.proofs.Uses.{marks_two, marks_inner, marks_inners, found}
 use Rattle.plan.proofs.Joins.{choice_joined, each_swept, over_swept}
 

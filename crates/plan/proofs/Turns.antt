@@ -1,5 +1,5 @@
 -- Occurrences with their notes, one after the other.
-use Rattle.std.proofs.Common.{◌≡◌, ℕ, ◌+◌, ◌<◌, ◌≤◌, List, [], ◌∷◌, ◌++◌, map, length, get_or, drop, sym, ap, ◌∙◌, subst, arith}
+use Rattle.std.proofs.Common.{◌≡◌, ℕ, ◌+◌, ◌<◌, ◌≤◌, List, ◌∷◌, map, length, get_or, drop, sym, ap, ◌∙◌, arith}
 use mathlib.Core.Path as P
 use Rattle.std.proofs.lemmas.List.{drop_more, drop_all}
 use Rattle.grammar.specs.declared.occurrence.Occurrence.{Occurrence}

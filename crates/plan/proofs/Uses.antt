@@ -1,8 +1,8 @@
 -- The free variables of an expression, by its uses of variables.
-use Rattle.std.proofs.Common.{◌≡◌, ℕ, suc, ◌+◌, ◌≤◌, Bool, true, false, cond, List, [], ◌∷◌, ◌++◌, map, length, drop, replicate, sym, refl, ap, ◌∙◌, arith}
+use Rattle.std.proofs.Common.{◌≡◌, ℕ, suc, ◌≤◌, Bool, false, cond, List, [], ◌∷◌, ◌++◌, map, length, replicate, sym, refl, ap, ◌∙◌, arith}
 use Rattle.std.proofs.lemmas.List.{append_assoc, length-map, length-replicate}
 use Rattle.types.specs.Types.{Ty}
-use Rattle.lang.specs.Expr.{Expr, Args, con, group, var, bind, prim, ite, each, over, nil, more, Mask, empty, single, union, free, frees}
+use Rattle.lang.specs.Expr.{Expr, Args, con, group, var, bind, prim, ite, each, over, nil, more, Mask, union, free, frees}
 use Rattle.judging.proofs.Marking.{flags, marked, flags_length, marked_inner, marked-length, marked_none, marked_twice, marked-single, marked_all}
 use Rattle.typing.specs.declared.parts.Use.{Use}
 use Rattle.typing.specs.Codes.{replay}

@@ -1,12 +1,11 @@
 -- The forks of an expression have no more free variables than it weighs.
-use Rattle.std.proofs.Common.{◌≡◌, ℕ, suc, ◌+◌, ◌≤◌, Bool, true, false, cond, List, [], ◌∷◌, ◌++◌, length, arith}
+use Rattle.std.proofs.Common.{ℕ, suc, ◌+◌, ◌≤◌, Bool, true, false, cond, List, [], ◌∷◌, length, arith}
 use Rattle.std.proofs.lemmas.List.{length-append}
 use Rattle.types.specs.Types.{Ty, int, bool, pair, list, parts}
 use Rattle.lang.specs.Expr.{Expr, Args, con, group, var, bind, prim, ite, each, over, nil, more, Mask, union, free}
-use Rattle.lang.specs.Weight.{parts_in, parts_of, weight, weights}
-use Rattle.plan.specs.declared.table.Free.{Free}
+use Rattle.lang.specs.Weight.{parts_in, weight, weights}
 use Rattle.plan.specs.Boxes.{boxed, free_list}
-use Rattle.plan.proofs.Blocks.{its, forked, forkeds}
+use Rattle.plan.proofs.Blocks.{forked, forkeds}
 
 some_parts : (t : Ty) → 1 ≤ parts t
 some_parts int = omega arith

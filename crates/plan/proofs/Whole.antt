@@ -1,5 +1,5 @@
 -- A whole program.
-use Rattle.std.proofs.Common.{◌≡◌, ℕ, ◌+◌, ◌≤◌, List, [], ◌∷◌, ◌++◌, map, length, sym, refl, ap, ◌∙◌, subst, arith}
+use Rattle.std.proofs.Common.{◌≡◌, ◌≤◌, List, [], ◌∷◌, ◌++◌, length, sym, refl, ap, ◌∙◌, subst, arith}
 use Rattle.std.proofs.lemmas.List.{append-nil}
 use Rattle.grammar.specs.Tree.{Tree, occs}
 use Rattle.grammar.specs.declared.occurrence.Occurrence.{Occurrence}
@@ -9,13 +9,13 @@ use Rattle.lang.specs.Weight.{weight}
 use Rattle.lang.specs.Phrases.{Program, a_program}
 use Rattle.lang.proofs.Accepting.{checking}
 use Rattle.lang.proofs.Derived.{derived}
-use Rattle.judging.specs.Acts.{Act, TypedOccurrence}
+use Rattle.judging.specs.Acts.{Act}
 use Rattle.judging.specs.Judging.{State}
 use Rattle.judging.specs.Occurrences.{type_occs, typed_occs, program_occs, acts}
 use Rattle.judging.proofs.Resolves.{lengths}
-use Rattle.program.specs.Loading.{Spells, Holds}
+use Rattle.program.specs.Loading.{Holds}
 use Rattle.plan.specs.Boxes.{boxed}
-use Rattle.plan.specs.Filling.{Filling, filling, empty, one, run, typed}
+use Rattle.plan.specs.Filling.{Filling, filling, empty, run, typed}
 use Rattle.plan.specs.Planned.{Planned}
 use Rattle.plan.proofs.Blocks.{end, forked, block, block_ends, uses_in}
 use Rattle.plan.proofs.Runs.{run-append, types_run, runs}

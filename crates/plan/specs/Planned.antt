@@ -1,7 +1,7 @@
 -- What it is for a table to have an expression.
 use Rattle.std.specs.Prelude.{◌≡◌, ℕ, ◌+◌, ◌<◌, List, [], ◌∷◌, length, slice_index_or}
 use Rattle.types.specs.Types.{Ty, bool, list}
-use Rattle.lang.specs.Expr.{Var, Scalar, Op, Expr, Args, con, group, var, bind, prim, ite, each, over, nil, more, Mask, union, free}
+use Rattle.lang.specs.Expr.{Var, Scalar, Op, Expr, Args, con, group, var, bind, prim, ite, each, over, nil, more, union, free}
 use Rattle.judging.specs.Notes.{index_of}
 use Rattle.plan.specs.declared.table.Mark.{Mark}
 use Rattle.plan.specs.declared.table.Entry.{Entry}

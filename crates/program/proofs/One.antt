@@ -1,5 +1,5 @@
 -- A text comes to one thing only.
-use Rattle.std.proofs.Common.{◌≡◌, ℕ, ◌+◌, ◌<◌, ◌≤◌, ◌⊎◌, List, ◌++◌, length, take, drop, sym, refl, ap, ◌∙◌, subst, inl, inr, append_assoc, arith}
+use Rattle.std.proofs.Common.{◌≡◌, ℕ, ◌+◌, ◌<◌, ◌≤◌, ◌⊎◌, List, ◌++◌, take, drop, sym, refl, ap, ◌∙◌, subst, inl, inr, append_assoc, arith}
 use Rattle.std.proofs.lemmas.List.{take-append-drop, take-take}
 use Rattle.std.proofs.lemmas.Bool.{cases_lt}
 use Rattle.tokens.specs.declared.kind.Token.{Token}
@@ -16,7 +16,7 @@ use Rattle.reader.specs.declared.fault.ReadFault.{ReadFault}
 use Rattle.reader.specs.declared.fault.ReadFault.TheVariants.{TooLong, Parse}
 use Rattle.reader.specs.Faults.{of_parse, of_read}
 use Rattle.reader.specs.Reading.{Rejects}
-use Rattle.program.specs.Loading.{Spells, Comes, OneLaw}
+use Rattle.program.specs.Loading.{Spells, OneLaw}
 
 -- fewer tokens of what begins a program begin one
 begins_fewer : (ts : List Token) (m n : ℕ) → m ≤ n → Begins (take n ts) → Begins (take m ts)

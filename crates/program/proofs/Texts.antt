@@ -1,5 +1,5 @@
 -- Texts of types, piece by piece.
-use Rattle.std.proofs.Common.{◌≡◌, ℕ, List, [], ◌∷◌, ◌++◌, codes, sym, refl, ap, ◌∙◌, append_assoc}
+use Rattle.std.proofs.Common.{◌≡◌, ℕ, List, [], ◌++◌, codes, sym, ap, ◌∙◌, append_assoc}
 use Rattle.types.specs.Types.{Ty, pair, list}
 use Rattle.program.specs.Spelling.{spelled}
 

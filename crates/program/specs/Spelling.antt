@@ -1,5 +1,5 @@
 -- How a type is written.
-use Rattle.std.specs.Prelude.{ℕ, List, [], ◌∷◌, ◌++◌, codes}
+use Rattle.std.specs.Prelude.{ℕ, List, ◌++◌, codes}
 use Rattle.types.specs.Types.{Ty, int, bool, pair, list}
 
 abbrev pub spelled : Ty → List ℕ

@@ -1,5 +1,5 @@
 -- Where faults are forgotten, to evaluate all elements together is to evaluate each by itself.
-use Rattle.std.proofs.Common.{◌≡◌, ℕ, ◌+◌, Bool, true, false, cond, not, List, [], ◌∷◌, ◌++◌, map, length, take, drop, sym, refl, ap, ◌∙◌, add-zero, arith}
+use Rattle.std.proofs.Common.{◌≡◌, ℕ, Bool, true, false, cond, not, List, [], ◌∷◌, ◌++◌, map, length, take, drop, sym, refl, ap, ◌∙◌, add-zero, arith}
 use mathlib.Core.Option.{Option, none, some}
 use Rattle.monoid.specs.Segments.{concat, cut}
 use Rattle.lang.specs.Values.{sum_by}

@@ -1,6 +1,5 @@
 -- All operations are monoids, if the house's is; so a scan has the joins of what stands before each place.
 use Rattle.std.proofs.Common.{◌≡◌, Bool, true, false, ◌||◌, length, get_or, sym, refl, ap, ◌∙◌}
-use mathlib.Core.Option.{some}
 use Rattle.grammar.specs.declared.occurrence.Operation.{Operation}
 use Rattle.grammar.specs.declared.occurrence.Operation.TheVariants.{Sum, Max, Or, Lin, House}
 use Rattle.monoid.specs.Laws.{Laws}

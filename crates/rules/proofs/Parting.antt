@@ -1,6 +1,6 @@
 -- Parts are cut exactly where lists of these lengths stand side by side; the ints of a range do not wrap.
-use Rattle.std.proofs.Common.{◌≡◌, ℕ, zero, suc, ◌+◌, ◌-◌, ◌^◌, ◌<◌, ◌≤◌, Bool, true, false, ◌&&◌, eqb, List, [], ◌∷◌, ◌++◌, map, length, take, drop, ℤ, pos, negsuc, ◌+ℤ◌, sym, refl, ap, ◌∙◌, ap₂, arith, length-append, length-drop, take-append-drop}
-use mathlib.Core.Option.{none, some}
+use Rattle.std.proofs.Common.{◌≡◌, ℕ, zero, suc, ◌+◌, ◌^◌, ◌<◌, ◌≤◌, Bool, true, false, ◌&&◌, eqb, List, [], ◌∷◌, ◌++◌, map, length, take, drop, ℤ, pos, negsuc, ◌+ℤ◌, sym, refl, ap, ◌∙◌, ap₂, arith, length-append, length-drop, take-append-drop}
+use mathlib.Core.Option.{some}
 use lib.Signed.{non_neg, mag}
 use mir.Val.{hbits}
 use Rattle.std.proofs.lemmas.List.{length-take-le}

@@ -4,7 +4,7 @@ use Rattle.monoid.specs.declared.int.Int.{Int}
 use Rattle.monoid.specs.Ints.{int_zero}
 use Rattle.types.specs.Types.{Ty, list}
 use Rattle.lang.specs.Values.{Val}
-use Rattle.lang.specs.Expr.{Scalar, number, truth, scalar, Expr, Args, each, union, free}
+use Rattle.lang.specs.Expr.{Scalar, number, truth, scalar, Expr, Args, union, free}
 use Rattle.lang.specs.Layout.{count}
 use Rattle.judging.specs.Notes.{index_of}
 use Rattle.rules.specs.Environment.{Env, look}

@@ -1,5 +1,5 @@
 -- What printing leaves in the output.
-use Rattle.std.specs.Prelude.{◌≡◌, ℕ, ◌+◌, ◌^◌, ◌<◌, List, ◌++◌, length, take, drop, Result, MatchResult}
+use Rattle.std.specs.Prelude.{◌≡◌, ℕ, ◌^◌, ◌<◌, List, take, Result, MatchResult}
 use mir.Val.{hbits}
 use Rattle.monoid.specs.declared.int.Int.{Int}
 use Rattle.monoid.specs.Ints.{width}

@@ -2,8 +2,6 @@
 use Rattle.std.proofs.Common.{◌≡◌, ℕ, suc, ◌+◌, ◌-◌, ◌<◌, ◌≤◌, ◌⊎◌, List, [], ◌∷◌, length, get_or, take, drop, set, Some, None, Option, sym, ap, ◌∙◌, ap₂, ⊎_elim, arith, length-drop, length-take}
 use Rattle.std.proofs.lemmas.List.{drop_more, length-map}
 use Rattle.monoid.specs.declared.int.Int.{Int}
-use Rattle.types.specs.Types.{int}
-use Rattle.lang.specs.Layout.{vectors}
 use Rattle.vectors.specs.declared.span.Span.{Span}
 use Rattle.vectors.specs.Vectors.{part, written}
 use Rattle.vectors.specs.Placing.{entries, extent}

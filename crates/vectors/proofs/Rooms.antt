@@ -1,11 +1,11 @@
 -- The room that vectors need, and the cells of a value whose vectors have it.
-use Rattle.std.proofs.Common.{◌≡◌, ℕ, suc, ◌+◌, ◌-◌, ◌<◌, ◌≤◌, ◌⊎◌, List, [], ◌∷◌, ◌++◌, map, length, get_or, take, drop, Some, None, Option, sym, refl, ap, ◌∙◌, ap₂, inl, inr, ⊎_elim, add-zero, arith, take-append-drop}
+use Rattle.std.proofs.Common.{◌≡◌, ℕ, suc, ◌+◌, ◌<◌, ◌≤◌, List, [], ◌∷◌, ◌++◌, map, length, get_or, take, drop, Some, None, Option, sym, refl, ap, ◌∙◌, ap₂, inl, inr, ⊎_elim, add-zero, arith, take-append-drop}
 use Rattle.std.proofs.lemmas.List.{take_all, drop_more, take_more}
 use Rattle.std.proofs.lemmas.Bool.{cases_lt}
 use Rattle.monoid.specs.declared.int.Int.{Int}
 use Rattle.types.specs.Types.{Ty, parts}
 use Rattle.lang.specs.Values.{Val, size, sum_by}
-use Rattle.lang.specs.Layout.{cells, vectors, count}
+use Rattle.lang.specs.Layout.{cells, vectors}
 use Rattle.vectors.specs.declared.span.Span.{Span}
 use Rattle.vectors.specs.declared.span.Layout.{Layout}
 use Rattle.vectors.specs.Placing.{extent, spans_of, Holds}

@@ -8,7 +8,7 @@ use Rattle.rules.specs.Table as rows
 use Rattle.rules.specs.Table.{Row, AllStand, table}
 use Rattle.rules.proofs.Table.{table_law}
 use Rattle.program.specs.Loading.{Spells}
-use Rattle.worked.specs.Worked.{Works, AllWork, no_row, and_row, WorkedLaw}
+use Rattle.worked.specs.Worked.{AllWork, no_row, and_row, WorkedLaw}
 use Rattle.worked.proofs.Tests.{and_then, shown}
 use Rattle.worked.proofs.Tokens.{cut?, run?, word?}
 use Rattle.worked.proofs.Trees.{type?, tree?, elements?, program?}

@@ -1,5 +1,5 @@
 -- Tests of kinds, numbers and names that come with what they show.
-use Rattle.std.proofs.Common.{◌≡◌, ℕ, ◌<◌, ◌≤◌, Bool, true, false, eqb, ltb, leb, sym, refl, ap, ◌∙◌, eqb-true}
+use Rattle.std.proofs.Common.{◌≡◌, ℕ, ◌≤◌, Bool, true, false, eqb, ltb, leb, refl, eqb-true}
 use mathlib.Core.Option.{Option, none, some}
 use Rattle.std.proofs.lemmas.Bool.{leb-true, false≢true}
 use Rattle.tokens.specs.declared.kind.Kind.{Kind}

@@ -6,7 +6,6 @@ use Rattle.std.proofs.lemmas.Bool.{ltb-true, eqb-true, both_ways, cases_lt}
 use Rattle.tokens.specs.declared.byte.Class.{Class}
 use Rattle.tokens.specs.declared.byte.Class.TheVariants.{Blank, InName, Digit}
 use Rattle.tokens.specs.declared.kind.Kind.{Kind}
-use Rattle.tokens.specs.declared.kind.Name.{Name}
 use Rattle.tokens.specs.declared.kind.Token.{Token}
 use Rattle.tokens.specs.Bytes.{in_class, Run, part}
 use Rattle.tokens.specs.Words.{spelling, all_words, IsWord, padded}

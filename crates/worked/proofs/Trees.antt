@@ -1,5 +1,5 @@
 -- A tree is tested against tokens, and the test comes with a derivation.
-use Rattle.std.proofs.Common.{◌≡◌, ℕ, ◌+◌, Bool, true, false, List, length, sym, refl, ap, ◌∙◌, subst}
+use Rattle.std.proofs.Common.{◌≡◌, ℕ, ◌+◌, true, false, List, length, sym, ap, ◌∙◌, subst}
 use mathlib.Core.Option.{Option, none, some}
 use Rattle.tokens.specs.declared.kind.Kind.{Kind}
 use Rattle.tokens.specs.declared.kind.Token.{Token}
@@ -7,10 +7,8 @@ use Rattle.tokens.specs.declared.kind.Name.{Name}
 use Rattle.tokens.specs.Kinds.{kind_at, place_at}
 use Rattle.grammar.specs.declared.occurrence.Infix.{Infix}
 use Rattle.grammar.specs.declared.occurrence.Infix.TheVariants.{Add, Subtract, Multiply, Divide, Remainder, Same, Less}
-use Rattle.grammar.specs.declared.occurrence.Unary.{Unary}
-use Rattle.grammar.specs.declared.occurrence.Operation.{Operation}
-use Rattle.grammar.specs.Tree.{Tree, Fold}
-use Rattle.grammar.specs.Grammar.{sign, word, joint, folder, Compares, same, less, Chain, sums, products, Joins, adds, subtracts, multiplies, divides, remains, Sort, programs, types, expressions, tests, chains, posts, atoms, operands, elements, Derives, Program}
+use Rattle.grammar.specs.Tree.{Tree}
+use Rattle.grammar.specs.Grammar.{sign, word, joint, folder, same, less, sums, products, adds, subtracts, multiplies, divides, remains, Sort, programs, types, expressions, tests, chains, posts, atoms, operands, elements, Derives, Program}
 use Rattle.grammar.specs.Grammar.{by_program, by_int, by_bool, by_both, by_many, by_let, by_if, by_test, by_comparison, by_total, by_link, by_linked, by_index, by_atom, by_number, by_true, by_false, by_name, by_group, by_pair, by_list, by_empty, by_each, by_sieve, by_word, by_part, by_fold, by_operand, by_first, by_more}
 use Rattle.lang.specs.Scope.{same_name}
 use Rattle.lang.proofs.Names.{name_is}

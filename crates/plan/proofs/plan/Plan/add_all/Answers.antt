@@ -1,4 +1,4 @@
-use Rattle.std.proofs.Common.{◌≡◌, ◌<◌, length, sym, ap, ◌∙◌, subst, arith}
+use Rattle.std.proofs.Common.{◌<◌, length, sym, ap, subst, arith}
 use Rattle.grammar.specs.declared.occurrence.What.{What}
 use Rattle.types.specs.Table.{types_in}
 use Rattle.typing.proofs.Lists.{under_at}

@@ -1,4 +1,4 @@
-use Rattle.std.proofs.Common.{◌≡◌, min, ◌++◌, length, vec_items, ap, ◌∙◌, arith}
+use Rattle.std.proofs.Common.{◌≡◌, min, ◌++◌, length, vec_items, ap, arith}
 use Rattle.std.proofs.lemmas.List.{length-reverse}
 use Rattle.plan.specs.Filling.{since}
 use Rattle.plan.specs.Holding.{held}
