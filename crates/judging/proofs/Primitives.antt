@@ -15,9 +15,9 @@ use Rattle.lang.specs.Scope.{Binding, kinds}
 use Rattle.lang.specs.Expr.{hollow, prim, nil, more, free, frees}
 use Rattle.lang.specs.Weight.{weight, weights}
 use Rattle.lang.specs.Rules.{Verdict, gives, large, limit, infix_rule, pair_rule, index_rule, part_rule, unary_rule, fold_rule, empty_rule, list_rule}
-use Rattle.lang.specs.Elaborate.{Operands, judged, one as one_of_lem, two as two-of, hollow_list, elaborate, elements}
+use Rattle.lang.specs.Elaborate.{Operands, judged, one as one_of_lem, two as two_of, hollow_list, elaborate, elements}
 use Rattle.lang.specs.Laws.{Small}
-use Rattle.lang.proofs.Sound.{Holds, after as then-holds, long_last}
+use Rattle.lang.proofs.Sound.{Holds, after as then_holds, long_last}
 use Rattle.judging.specs.Notes.{note, notes, notes_of}
 use Rattle.judging.specs.Judging.{State, counted_of, noted, weighing, pushed, popped, node_of, one, two, step, judge}
 use Rattle.judging.proofs.Forks.{AllSmall, marks_none, counted_small}
@@ -50,8 +50,8 @@ module _ {a : Tree} (i : Judges a) where
 module _ {a b : Tree} (i : Judges a) (j : Judges b) where
   two_run : (p : ℕ) (w : What) (rule : (t u : Ty) → Verdict (t ∷ u ∷ [])) → ((s : State) → step w p s ≡ two p rule s) →
       (s : State) → Fine s.scope s.forks → (rest : List Occurrence) →
-      Holds (Slim {Γ = kinds s.scope}) (two-of p rule (elaborate a s.scope) (elaborate b s.scope)) →
-      judge (occs a ++ occs b ++ occ w p ++ rest) s ≡ then (two-of p rule (elaborate a s.scope) (elaborate b s.scope)) (λ y. judge rest (after y.1 s))
+      Holds (Slim {Γ = kinds s.scope}) (two_of p rule (elaborate a s.scope) (elaborate b s.scope)) →
+      judge (occs a ++ occs b ++ occ w p ++ rest) s ≡ then (two_of p rule (elaborate a s.scope) (elaborate b s.scope)) (λ y. judge rest (after y.1 s))
   two_run p w rule is s h rest q =
       ap (λ l. judge l s) (join_3 (occs a) (occs b) (occ w p) rest) ∙ on i s h (occs b ++ (occ w p ++ rest)) Slim _ _ q λ x l q.
       on j (after x.1 s) (fine_marks h _) (occ w p ++ rest) Slim _ _ q λ y m q.
@@ -111,7 +111,7 @@ pub record JudgesAll (es : Tree) : Type 0 where
 
 first-counts : (a : Tree) (c : List Binding) → Small c → Holds (Counted (Tree.first a) {Γ = kinds c}) (elements (Tree.first a) c)
 unfolding elements
-first-counts a c h = then-holds (Slim {Γ = kinds c}) (Counted (Tree.first a) {Γ = kinds c}) (elaborate a c) _ (slim a c h) λ x l. ((l, tt), refl)
+first-counts a c h = then_holds (Slim {Γ = kinds c}) (Counted (Tree.first a) {Γ = kinds c}) (elaborate a c) _ (slim a c h) λ x l. ((l, tt), refl)
 
 pub all_first : {a : Tree} → Judges a → JudgesAll (Tree.first a)
 unfolding elements
@@ -127,8 +127,8 @@ small_last (u ∷ ts) t h l = (h.0, small_last ts t h.1 l)
 more_counts : {es : Tree} → JudgesAll es → (a : Tree) (c : List Binding) → Small c → Holds (Counted (Tree.more es a) {Γ = kinds c}) (elements (Tree.more es a) c)
 unfolding elements
 more_counts {es} i a c h =
-    then-holds (Counted es {Γ = kinds c}) (Counted (Tree.more es a) {Γ = kinds c}) (elements es c) _ (i.counts c h) λ xs k.
-    then-holds (Slim {Γ = kinds c}) (Counted (Tree.more es a) {Γ = kinds c}) (elaborate a c) _ (slim a c h) λ x l.
+    then_holds (Counted es {Γ = kinds c}) (Counted (Tree.more es a) {Γ = kinds c}) (elements es c) _ (i.counts c h) λ xs k.
+    then_holds (Slim {Γ = kinds c}) (Counted (Tree.more es a) {Γ = kinds c}) (elaborate a c) _ (slim a c h) λ x l.
     (small_last xs.0 x.0 k.0 l, long_last xs.0 x.0 ∙ ap (λ n. n + 1) k.1)
 
 pub all_more : {es a : Tree} → JudgesAll es → Judges a → JudgesAll (Tree.more es a)

@@ -17,7 +17,7 @@ use Rattle.lang.specs.Weight.{weight}
 use Rattle.lang.specs.Written.{Written, written}
 use Rattle.lang.specs.Elaborate.{Typed, elaborate}
 use Rattle.lang.specs.Check.{Checked, header, at_result, weighed, heaviest, check}
-use Rattle.lang.specs.Check.{declared as declared-as}
+use Rattle.lang.specs.Check.{declared as declared_as}
 use Rattle.lang.specs.Phrases.{Program, a_program}
 use Rattle.lang.proofs.Sound.{Holds}
 use Rattle.lang.proofs.Derived.{derived}
@@ -74,16 +74,16 @@ module _ (n : Name) (t u : Ty) where
 
   body-then : {e : Tree} → Judges e → parts t ≤ 8 →
       then (judge (occs e ++ []) (at_body n t u)) finish ≡
-      then (then (elaborate e (bound n t ∷ [])) (λ y. then (declared-as u y) (λ e. weighed t u e))) (λ c. ok (ended n c))
+      then (then (elaborate e (bound n t ∷ [])) (λ y. then (declared_as u y) (λ e. weighed t u e))) (λ c. ok (ended n c))
   body-then {e} j h = ap (λ m. then m finish) (j.run (at_body n t u) (record { small = (h, tt); inside = tt }) []) ∙ by (elaborate e (bound n t ∷ []))
     where
-      by : (m : Out (Typed (t ∷ []))) → then (then m (λ y. ok (after y.1 (at_body n t u)))) finish ≡ then (then m (λ y. then (declared-as u y) (λ e. weighed t u e))) (λ c. ok (ended n c))
+      by : (m : Out (Typed (t ∷ []))) → then (then m (λ y. ok (after y.1 (at_body n t u)))) finish ≡ then (then m (λ y. then (declared_as u y) (λ e. weighed t u e))) (λ c. ok (ended n c))
       by (ok y) = body_end (same y.0 u) y.1
       by (refused r) = P.refl
 
 -- the whole, for what is written in the header
 abbrev checking : Name → Tree → Option Written → Option Written → Out Checked
-checking n e o m = then (header o) λ t. then (header m) λ u. then (elaborate e (bound n t ∷ [])) λ y. then (declared-as u y) λ e. weighed t u e
+checking n e o m = then (header o) λ t. then (header m) λ u. then (elaborate e (bound n t ∷ [])) λ y. then (declared_as u y) λ e. weighed t u e
 
 program_then : {x r : ℕ} {a b e : Tree} (n : Name) → Writing x a → Writing r b → Judges e →
     then (judge (occs (Tree.program x n r a b e)) begin) finish ≡ then (check (Tree.program x n r a b e)) (λ c. ok (ended n c))
@@ -121,7 +121,7 @@ program_light : (x r : ℕ) (n : Name) (a b e : Tree) → Holds (λ (c : Checked
 unfolding check
 program_light x r n a b e =
     holds_then _ (header (written a)) _ λ t. holds_then _ (header (written b)) _ λ u. holds_then _ (elaborate e (bound n t ∷ [])) _ λ y.
-    holds_then _ (declared-as u y) _ λ e. weighed_light t u e
+    holds_then _ (declared_as u y) _ λ e. weighed_light t u e
 
 agree_ended : (n : Name) (m : Out Checked) → Holds (λ (c : Checked). c.weight ≤ 2000) m → AgreeAlone m (then m (λ c. ok (ended n c)))
 agree_ended n (ok c) h = record { accepted = record { stack = P.refl; notes = P.refl; weight = P.refl; light = h }; scope = P.refl }

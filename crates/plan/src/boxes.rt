@@ -1,7 +1,7 @@
 // Which values are boxed, by their types.
 ghost use Rattle.std.specs.Prelude.{◌≡◌, ◌<◌, length};
 ghost use Rattle.types.specs.Table.{types_in, type_of};
-ghost use Rattle.plan.specs.Boxes.{boxed as boxedAt};
+ghost use Rattle.plan.specs.Boxes.{boxed as boxed_at};
 ghost use Rattle.plan.specs.Filling.{elements_boxed, inner_boxed, first_boxed, second_boxed};
 
 use types::node::TypeNode;
@@ -10,7 +10,7 @@ use types::table::TypeTable;
 // Whether values of a type are boxed.
 pub fn boxed(types: &TypeTable, code: usize) -> bool
     requires { code < length (types_in types.now) }
-    ensures { result ≡ boxedAt (type_of types.now code) }
+    ensures { result ≡ boxed_at (type_of types.now code) }
 {
     match types.node(code) {
         TypeNode::Int => false,

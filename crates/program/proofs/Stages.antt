@@ -20,7 +20,7 @@ use Rattle.typing.specs.declared.fault.CheckFault.{CheckFault}
 use Rattle.typing.specs.declared.checker.Checker.{Checker}
 use Rattle.typing.specs.Faults.{of_check}
 use Rattle.typing.specs.Holding.{held, Judged}
-use Rattle.reader.specs.Reading.{Accepts as Accepted-text}
+use Rattle.reader.specs.Reading.{Accepts as AcceptedText}
 use Rattle.reader.specs.declared.table.Table.{Table}
 use Rattle.program.specs.declared.memory.Rejected.{Rejected}
 use Rattle.program.specs.declared.read.ReadProgram.{ReadProgram}
@@ -29,10 +29,10 @@ use Rattle.program.specs.Loading.{Spells, Comes, Reads, Holds}
 use Rattle.program.specs.Stages.{IsChecked, Tabled, Accepts, Refuses}
 use Rattle.program.specs.Answers.{read_in, CheckedAs, Loaded, LoadedAs}
 
-pub spelling : {text : List ℕ} {os : List Occurrence} → Accepted-text text os → (tree : Tree) × Spells text tree × (os ≡ occs tree)
+pub spelling : {text : List ℕ} {os : List Occurrence} → AcceptedText text os → (tree : Tree) × Spells text tree × (os ≡ occs tree)
 spelling a = (a.reads.program.tree, record { short = a.short; tokens = a.tokens; cuts = a.cuts; program = a.reads.program; is = refl }, a.reads.table)
 
-reading : {text : List ℕ} {os : List Occurrence} → Accepted-text text os → Reads os
+reading : {text : List ℕ} {os : List Occurrence} → AcceptedText text os → Reads os
 reading {text} a = let s = spelling a in record { text = text; tree = s.0; spells = s.1; is = s.2 }
 
 -- what judging comes to
@@ -57,7 +57,7 @@ agree_refused (ok c) r h = absurd h
 agree_refused (refused q) r h = ap refused h
 
 -- a text that was read
-pub tabled : (text : List ℕ) (t : Table) → Accepted-text text (occurrences_of t) → length (occurrences_of t) ≤ 1024 → Tabled text t
+pub tabled : (text : List ℕ) (t : Table) → AcceptedText text (occurrences_of t) → length (occurrences_of t) ≤ 1024 → Tabled text t
 tabled text t a few = let s = spelling a in record { read = ∣ reading a ∣₁; few = few; tree = s.0; spells = s.1; is = s.2 }
 
 module _ {text : List ℕ} {tree : Tree} {os : List Occurrence} (s : Spells text tree) (e : os ≡ occs tree) where
@@ -85,7 +85,7 @@ loaded text p (Ok q) s h =
 loaded text p (Err e) s h = inr (s.tree, s.spells, h.each text s.tree s.spells s.is)
 
 -- what the reader's and the checker's calls answer
-pub filled : (text : List ℕ) (t : Table) (r : Result (Unit {0}) ReadFault) → MatchResult r (λ _. Accepted-text text (occurrences_of t)) (λ f. Rejects text f) →
+pub filled : (text : List ℕ) (t : Table) (r : Result (Unit {0}) ReadFault) → MatchResult r (λ _. AcceptedText text (occurrences_of t)) (λ f. Rejects text f) →
     IfOk r (λ _. length (occurrences_of t) ≤ 1024) → MatchResult r (λ _. Tabled text t) (λ f. Rejects text f)
 filled text t (Ok _) a few = tabled text t a few
 filled text t (Err f) a few = a

@@ -20,7 +20,7 @@ use Rattle.running.specs.Words.{Holds, Kept, with}
 use Rattle.running.proofs.Counts.{place_of}
 use Rattle.running.proofs.Holding.{sub_refl, sub_trans, word_sub, kept_sub, kept_look, sizes_free, list_few}
 use Rattle.running.proofs.Meets.{Good, Meets, meets_bind, meets_bind_step, meets_ret, meets_pay, at_mark}
-use Rattle.running.proofs.Doing.{Tasks, p_nil as pushed-nil, p_more as pushed_more}
+use Rattle.running.proofs.Doing.{Tasks, p_nil as pushed_nil, p_more as pushed_more}
 use Rattle.running.proofs.Forks.{LeftAll, Roomy, after, joins, forks, chooses, either, ran}
 use Rattle.running.proofs.Loops.{Looped, Piece, rows, overs}
 
@@ -101,7 +101,7 @@ module _ (B K Z : ℕ) (H : HouseJoin) (os : List Entry) (fs : List Free) (roomy
     pub runs_all : {Γ ts : List Ty} {xs : Args Γ ts} {i j : ℕ} → PlannedArgs os fs Γ ts xs i j → (ρ : Env Γ) (c : ℕ) (h o e l : List Int) →
         Good B K c h → length o ≤ Z + c → Kept h Γ e ρ →
         Meets B K H os fs 0 2 c (st i c h o e l) (after j e l) (LeftAll h ts o) (directs H B xs ρ c)
-    runs_all p_nil ρ c h o e l lb lo kp = meets_ret B K H os fs h o refl lb (record { sub = sub_refl h; all = pushed-nil })
+    runs_all p_nil ρ c h o e l lb lo kp = meets_ret B K H os fs h o refl lb (record { sub = sub_refl h; all = pushed_nil })
     runs_all (p_more {t = t} cx ca) ρ c h o e l lb lo kp =
         meets_bind B K H os fs (omega arith) (omega arith) (omega arith) (runs cx ρ c h o e l lb lo kp)
         (λ d h' w v lb' lt q. meets_bind B K H os fs {r = 0} {y = 2} (omega arith) (omega arith) (omega arith)

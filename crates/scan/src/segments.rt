@@ -2,7 +2,7 @@
 // `v` has the elements of all segments, `lengths` their lengths; `places` is lent for the lifted elements.
 ghost use Rattle.std.specs.Prelude.{◌≡◌, ℕ, ◌+◌, ◌%◌, ◌^◌, map, length, if◌then◌else◌, sum, nat_eq, slice_index_or};
 ghost use Rattle.scan.specs.Ends.{Ends};
-ghost use Rattle.monoid.specs.Segments.{places as segmentPlaces, cut, reduced, scanned, element};
+ghost use Rattle.monoid.specs.Segments.{places as segment_places, cut, reduced, scanned, element};
 
 use crate::ScanEngine;
 use monoid::Monoid;
@@ -11,7 +11,7 @@ use monoid::segmented::Segmented;
 // Writes the places of the segments: each element, with the flag up at each segment's head. An empty segment has none.
 fn mark<M: Monoid>(v: &[M::Element], lengths: &[usize], places: &mut [(bool, M::Element)])
     requires { (sum lengths.now ≡ length v.now) × (length places.old ≡ length v.now) }
-    ensures { places.new ≡ segmentPlaces (cut v.now lengths.now) }
+    ensures { places.new ≡ segment_places (cut v.now lengths.now) }
 {
     for i in 0..v.len() {
         places[i] = (false, v[i]);

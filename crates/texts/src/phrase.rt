@@ -1,6 +1,6 @@
 // The phrases of a value's text, from a place on. Cells are stored as far as there is room, and counted beyond.
 ghost use Rattle.std.specs.Prelude.{◌≡◌, ℕ, ◌+◌, ◌<◌, ◌≤◌, length, MatchResult, slice_index};
-ghost use Rattle.lang.specs.Layout.{flag as flagOf};
+ghost use Rattle.lang.specs.Layout.{flag as flag_of};
 ghost use Rattle.types.specs.Types.{int, bool, pair, list};
 ghost use Rattle.types.specs.Table.{types_in, type_of, Shows};
 ghost use Rattle.texts.specs.Phrases.{Mark, Signs, Sound, ValueRead, ValueStops, HalfRead, HalfStops};
@@ -38,7 +38,7 @@ pub fn node_of(types: &TypeTable, code: usize) -> TypeNode
 
 // A truth value as a cell.
 fn flag(b: bool) -> Int
-    ensures { result ≡ flagOf b }
+    ensures { result ≡ flag_of b }
 {
     if b { Int::one() } else { Int::zero() }
 }

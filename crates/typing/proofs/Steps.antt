@@ -9,7 +9,7 @@ use Rattle.grammar.specs.declared.occurrence.Infix.{Infix}
 use Rattle.grammar.specs.declared.occurrence.What.{What}
 use Rattle.grammar.specs.declared.occurrence.Unary.TheVariants.{Range, Flat}
 use Rattle.lang.specs.Outcome.{Out, ok, refused, then, refuse}
-use Rattle.lang.specs.Expr.{answers, Op, part_op, scan_op, reduce_op, joined as joinedBy}
+use Rattle.lang.specs.Expr.{answers, Op, part_op, scan_op, reduce_op, joined as joined_by}
 use Rattle.lang.specs.Rules.{Verdict, gives, large, limit, limited, is, of_list, of_pair, infix_rule, index_rule, part_rule, unary_rule, fold_rule}
 use Rattle.types.proofs.Same.{same_self}
 use Rattle.grammar.specs.Tree.{Fold, scan, reduce}
@@ -159,17 +159,17 @@ pub part_large : (p : ℕ) (a b e t : Ty) → a ≡ list e → b ≡ list int �
 part_large p a b e t ea eb et h =
     let same : t ≡ list (list e) = et ∙ ap list ea in part-is p a b e ea eb ∙ limited_no p part_op (subst (λ x. 8 < counted x) same h)
 
-pub fold_no : (f : Fold) (o : Operation) (p : ℕ) (a : Ty) (r : Refusal) → same a (list (joinedBy o)) ≡ none → r ≡ record { number = 6; place = p } → decide p (fold_rule f o a) ≡ refused r
-fold_no scan o p a r e er = not_same (λ t. t ∷ []) (same a (list (joinedBy o))) _ p e ∙ ap refused (sym er)
-fold_no reduce o p a r e er = not_same (λ t. t ∷ []) (same a (list (joinedBy o))) _ p e ∙ ap refused (sym er)
+pub fold_no : (f : Fold) (o : Operation) (p : ℕ) (a : Ty) (r : Refusal) → same a (list (joined_by o)) ≡ none → r ≡ record { number = 6; place = p } → decide p (fold_rule f o a) ≡ refused r
+fold_no scan o p a r e er = not_same (λ t. t ∷ []) (same a (list (joined_by o))) _ p e ∙ ap refused (sym er)
+fold_no reduce o p a r e er = not_same (λ t. t ∷ []) (same a (list (joined_by o))) _ p e ∙ ap refused (sym er)
 
-pub scan_ok : (o : Operation) (p : ℕ) (a : Ty) → a ≡ list (joinedBy o) → decide p (fold_rule scan o a) ≡ ok a
+pub scan_ok : (o : Operation) (p : ℕ) (a : Ty) → a ≡ list (joined_by o) → decide p (fold_rule scan o a) ≡ ok a
 scan_ok o p a e =
-    ap (λ t. decide p (fold_rule scan o t)) e ∙ ap (λ x. decide p (is (λ t. t ∷ []) x (gives (list (joinedBy o)) (scan_op o)))) (same_self (list (joinedBy o))) ∙ ap ok (sym e)
+    ap (λ t. decide p (fold_rule scan o t)) e ∙ ap (λ x. decide p (is (λ t. t ∷ []) x (gives (list (joined_by o)) (scan_op o)))) (same_self (list (joined_by o))) ∙ ap ok (sym e)
 
-pub reduce_ok : (o : Operation) (p : ℕ) (a t : Ty) → a ≡ list (joinedBy o) → t ≡ joinedBy o → decide p (fold_rule reduce o a) ≡ ok t
+pub reduce_ok : (o : Operation) (p : ℕ) (a t : Ty) → a ≡ list (joined_by o) → t ≡ joined_by o → decide p (fold_rule reduce o a) ≡ ok t
 reduce_ok o p a t e et =
-    ap (λ t. decide p (fold_rule reduce o t)) e ∙ ap (λ x. decide p (is (λ t. t ∷ []) x (gives (joinedBy o) (reduce_op o)))) (same_self (list (joinedBy o))) ∙ ap ok (sym et)
+    ap (λ t. decide p (fold_rule reduce o t)) e ∙ ap (λ x. decide p (is (λ t. t ∷ []) x (gives (joined_by o) (reduce_op o)))) (same_self (list (joined_by o))) ∙ ap ok (sym et)
 
 -- the join of an if
 pub if_join_ok : (s s' : State) (p n : ℕ) → top s ≡ top (popped 1 s) → n ≡ parts_used s.scope (fork s).used + (1 + counted (top (popped 1 s))) → s' ≡ weighing n (mark (joined (popped 1 s))) → step What.IfJoin p s ≡ ok s'

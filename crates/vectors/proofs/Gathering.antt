@@ -95,11 +95,11 @@ module _ (a : Ty) (ints : List Int) (spans spans₁ : List Span) (out : List Int
       → length ls ≡ 1 → spans' ≡ ls ++ rs'
       → Takes ints spans (Some x) spans₁ → IsLength x (Some n) → Puts out to x (Some at) out₁ → GathersAll a n ints rs out₁ at r rs' out₂
       → Gathers (list a) ints spans out to r spans' out₂
-  list_gathers x n at out₁ ls rs rs' spans' r out₂ split one split' takes isLength puts second v ws small fits is room =
+  list_gathers x n at out₁ ls rs rs' spans' r out₂ split one split' takes is_length puts second v ws small fits is room =
       let lens = map (λ (w : List (Val a)). count (length w)) ws in
       let t = took ints spans (Some x) spans₁ takes (count (length v)) lens (vectors a (v ++ concat ws)) is in
       let same : x ≡ count (length v) = let q = t.is in cc in
-      let long : length v ≡ n = let q = length_is x (length v) (omega (arith, few a v)) same (Some n) isLength in cc in
+      let long : length v ≡ n = let q = length_is x (length v) (omega (arith, few a v)) same (Some n) is_length in cc in
       let halves : left ints ls ++ left ints rs ≡ (lens ∷ []) ++ vectors a (v ++ concat ws) = sym (map-append (entries ints) ls rs)
       ∙ ap (left ints) (sym split) ∙ t.leaves in
       let first : left ints ls ≡ lens ∷ [] = sym (take_at (left ints ls) (left ints rs) 1 (length-map ls (entries ints) ∙ one))
@@ -120,10 +120,10 @@ module _ (a : Ty) (ints : List Int) (spans spans₁ : List Span) (out : List Int
 
   pub not_a_length : (x : Int) (spans' : List Span) (out' : List Int) → Takes ints spans (Some x) spans₁ → IsLength x None
       → Gathers (list a) ints spans out to None spans' out'
-  not_a_length x spans' out' takes isLength v ws small fits is room =
+  not_a_length x spans' out' takes is_length v ws small fits is room =
       let t = took ints spans (Some x) spans₁ takes (count (length v)) _ _ is in
       let same : x ≡ count (length v) = let q = t.is in cc in
-      absurd (never_none _ (sym (length_is x (length v) (omega (arith, few a v)) same None isLength)))
+      absurd (never_none _ (sym (length_is x (length v) (omega (arith, few a v)) same None is_length)))
 
   pub no_place : (x : Int) (spans' : List Span) (out' : List Int) → Puts out to x None out' → Gathers (list a) ints spans out to None spans' out'
   no_place x spans' out' puts v ws small fits is room = absurd (omega (arith, puts.0))

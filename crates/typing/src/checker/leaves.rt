@@ -3,7 +3,7 @@ ghost use Rattle.std.specs.Prelude.{◌≡◌, ◌<◌, length};
 ghost use Rattle.lang.specs.Outcome.{ok};
 ghost use Rattle.types.specs.Types.{int, bool};
 ghost use Rattle.grammar.specs.declared.occurrence.What.{What};
-ghost use Rattle.judging.specs.Judging.{leaf as leafOf, mark as mark_of, pushed, step};
+ghost use Rattle.judging.specs.Judging.{leaf as leaf_of, mark as mark_of, pushed, step};
 ghost use Rattle.typing.specs.Holding.{held, known, type_in, Room};
 
 use super::Checker;
@@ -13,7 +13,7 @@ impl Checker {
     pub(super) fn leaf(&mut self, code: usize)
         requires room { Room (held self.old) }
         requires within { code < length (known self.old) }
-        ensures { leafOf (type_in self.old code) (held self.old) ≡ ok (held self.new) }
+        ensures { leaf_of (type_in self.old code) (held self.old) ≡ ok (held self.new) }
     {
         self.note(code, 0);
         self.push(code);
@@ -88,7 +88,7 @@ impl Checker {
 
     pub(super) fn number(&mut self)
         requires { Room (held self.old) }
-        ensures { leafOf int (held self.old) ≡ ok (held self.new) }
+        ensures { leaf_of int (held self.old) ≡ ok (held self.new) }
     {
         let code = self.types.int();
         self.leaf(code);
@@ -96,7 +96,7 @@ impl Checker {
 
     pub(super) fn truth(&mut self)
         requires { Room (held self.old) }
-        ensures { leafOf bool (held self.old) ≡ ok (held self.new) }
+        ensures { leaf_of bool (held self.old) ≡ ok (held self.new) }
     {
         let code = self.types.bool();
         self.leaf(code);

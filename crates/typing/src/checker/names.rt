@@ -2,7 +2,7 @@
 ghost use Rattle.std.specs.Prelude.{◌≡◌};
 ghost use Rattle.grammar.specs.declared.occurrence.What.{What};
 ghost use Rattle.lang.specs.Outcome.{ok, refused};
-ghost use Rattle.judging.specs.Judging.{step, header as headerOf};
+ghost use Rattle.judging.specs.Judging.{step, header as header_of};
 ghost use Rattle.typing.specs.Holding.{held, Room, Judged};
 
 use super::super::fault::CheckFault;
@@ -35,7 +35,7 @@ impl Checker {
 
     // Whether the type that is written in the header is small enough.
     fn header(&self, place: usize) -> Result<(), CheckFault>
-        ensures { Judged (headerOf place (held self.now)) self.now result }
+        ensures { Judged (header_of place (held self.now)) self.now result }
     {
         let code = self.top(0);
         if self.parts(code) > MAX_PARTS {

@@ -1,7 +1,7 @@
 // The variables in scope.
 ghost use Rattle.std.specs.Prelude.{◌≡◌, ◌<◌, length, MatchOption};
 ghost use Rattle.std.proofs.Math.Option.{none, some};
-ghost use Rattle.judging.specs.Judging.{entered, left, find as foundIn};
+ghost use Rattle.judging.specs.Judging.{entered, left, find as found_in};
 ghost use Rattle.typing.specs.Holding.{held, known, type_in};
 
 use super::super::name::same_name;
@@ -31,7 +31,7 @@ impl Checker {
 
     // The innermost variable of this name: its type's code, and how many stand inside it.
     pub(super) fn find(&self, name: Name) -> Option<Note>
-        ensures { MatchOption result (foundIn (held self.now).scope name ≡ none) (λ x. (x.code < length (known self.now)) × (foundIn (held self.now).scope name ≡ some (x.index, type_in self.now x.code))) }
+        ensures { MatchOption result (found_in (held self.now).scope name ≡ none) (λ x. (x.code < length (known self.now)) × (found_in (held self.now).scope name ≡ some (x.index, type_in self.now x.code))) }
     {
         let n = self.scope.len();
         for k in 0..n {

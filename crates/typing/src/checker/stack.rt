@@ -1,6 +1,6 @@
 // The stack of types.
 ghost use Rattle.std.specs.Prelude.{◌≡◌, ◌+◌, ◌^◌, ◌<◌, ◌≤◌, [], ◌∷◌, length};
-ghost use Rattle.judging.specs.Notes.{note as noteOn};
+ghost use Rattle.judging.specs.Notes.{note as note_on};
 ghost use Rattle.judging.specs.Judging.{top as top_of, pushed, popped, noted, weighing};
 ghost use Rattle.typing.specs.Holding.{held, known, type_in, Room};
 
@@ -72,7 +72,7 @@ impl Checker {
     pub(super) fn node(&mut self, k: usize, code: usize, n: usize)
         requires room { (Room (held self.old)) × (n ≤ 2 ^ 40) }
         requires within { code < length (known self.old) }
-        ensures holds { held self.new ≡ noted (noteOn (type_in self.old code)) (weighing n (pushed (type_in self.old code) (popped k (held self.old)))) }
+        ensures holds { held self.new ≡ noted (note_on (type_in self.old code)) (weighing n (pushed (type_in self.old code) (popped k (held self.old)))) }
     {
         self.note(code, 0);
         self.settle(k, code, n);

@@ -1,7 +1,7 @@
 // A whole program.
 ghost use Rattle.std.specs.Prelude.{◌≡◌, ◌≤◌, length};
 ghost use Rattle.lang.specs.Outcome.{then};
-ghost use Rattle.judging.specs.Judging.{judge as judgeAll, begin, finish as finished};
+ghost use Rattle.judging.specs.Judging.{judge as judge_all, begin, finish as finished};
 ghost use Rattle.typing.specs.Holding.{held, Judged};
 
 use super::super::fault::CheckFault;
@@ -25,7 +25,7 @@ impl Checker {
     fn judge_each(&mut self, occurrences: &[Occurrence]) -> Result<(), CheckFault>
         requires new { held self.old ≡ begin }
         requires few { length occurrences.now ≤ 1024 }
-        ensures { Judged (judgeAll occurrences.now begin) self.new result }
+        ensures { Judged (judge_all occurrences.now begin) self.new result }
     {
         for o in occurrences {
             self.judge_one(*o)?;
@@ -51,7 +51,7 @@ impl Checker {
     // Judges a program by its occurrences: the state at its end, or the first refusal.
     pub fn judge_program(&mut self, occurrences: &[Occurrence]) -> Result<(), CheckFault>
         requires { length occurrences.now ≤ 1024 }
-        ensures { Judged (then (judgeAll occurrences.now begin) finished) self.new result }
+        ensures { Judged (then (judge_all occurrences.now begin) finished) self.new result }
     {
         self.clear();
         self.judge_each(occurrences)?;
