@@ -18,8 +18,8 @@ module _ {M : Type 0} {unit : M} {op : M → M → M} (laws : Laws unit op) wher
   running-at a (x ∷ xs) zero h = sym (laws.right a)
   running-at a (x ∷ xs) (suc k) h = running-at (op a x) xs k (omega arith) ∙ laws.assoc a x (product unit op (take k xs))
 
-  pub get_d_running : (xs : List M) (k : ℕ) → k < length xs → get_or (running op unit xs) k unit ≡ product unit op (take k xs)
-  get_d_running xs k h = running-at unit xs k h ∙ laws.left (product unit op (take k xs))
+  pub get_or-running : (xs : List M) (k : ℕ) → k < length xs → get_or (running op unit xs) k unit ≡ product unit op (take k xs)
+  get_or-running xs k h = running-at unit xs k h ∙ laws.left (product unit op (take k xs))
 
   scanned-append : (xss yss : List (List M)) → scanned unit op (xss ++ yss) ≡ scanned unit op xss ++ scanned unit op yss
   scanned-append [] yss = refl

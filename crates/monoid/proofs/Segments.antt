@@ -108,8 +108,8 @@ module _ {M : Type 0} where
   length_cut v (n ∷ d) = ap suc (length_cut (drop n v) d)
 
   -- what is made of segment j, among all
-  pub get_d_cut : {X : Type 0} (f : List M → X) (x : X) (v : List M) (d : List ℕ) (j : ℕ) → j < length d → get_or (map f (cut v d)) j x ≡ f (take (get_or d j 0) (drop (sum (take j d)) v))
-  get_d_cut f x v d j h =
+  pub get_or-cut : {X : Type 0} (f : List M → X) (x : X) (v : List M) (d : List ℕ) (j : ℕ) → j < length d → get_or (map f (cut v d)) j x ≡ f (take (get_or d j 0) (drop (sum (take j d)) v))
+  get_or-cut f x v d j h =
       let front = cut v (take j d) in
       let n = get_or d j 0 in
       let rest = drop (sum (take j d)) v in

@@ -6,7 +6,7 @@ use Rattle.monoid.specs.Laws.{Laws}
 use Rattle.monoid.specs.Segments.{running}
 use Rattle.monoid.specs.IntsLemmas.{sum_laws, int_laws, max_laws, latest_laws, bit_or_laws}
 use Rattle.monoid.specs.Semirings.{affine_laws}
-use Rattle.monoid.proofs.Running.{length-running, get_d_running}
+use Rattle.monoid.proofs.Running.{length-running, get_or-running}
 use Rattle.rules.specs.Joining.{HouseJoin, HouseLaws, joining}
 use Rattle.rules.proofs.Cases.{some_inj}
 use Rattle.rules.specs.Meaning.{JoinsLaw}
@@ -34,6 +34,6 @@ joins_law = record {
       let e = some_inj (running (joining H o).op (joining H o).unit xs) ys k in
       let laws = joining_laws H h o in (
         ap length (sym e) ∙ length-running laws (joining H o).unit xs,
-        (λ i l. ap (λ zs. get_or zs i (joining H o).unit) (sym e) ∙ get_d_running laws xs i l),
+        (λ i l. ap (λ zs. get_or zs i (joining H o).unit) (sym e) ∙ get_or-running laws xs i l),
       );
 }

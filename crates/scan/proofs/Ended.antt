@@ -5,7 +5,7 @@ use Rattle.std.proofs.lemmas.Bool.{cases_lt}
 use Rattle.monoid.specs.Laws.{Laws, product}
 use Rattle.monoid.specs.Lifted.{lifted}
 use Rattle.monoid.specs.Segments.{places, cut, reduced}
-use Rattle.monoid.proofs.Segments.{upto, length-places, length_cut, get_d_cut, product_segment}
+use Rattle.monoid.proofs.Segments.{upto, length-places, length_cut, get_or-cut, product_segment}
 use Rattle.scan.specs.Scans.{Scanned}
 use Rattle.scan.specs.Ends.{Ends}
 
@@ -40,4 +40,4 @@ module _ {M : Type 0} {unit : M} {op : M → M → M} (laws : Laws unit op) (v :
   pub ended : (out : List M) → length out ≡ length d → Ends unit d ys all out → out ≡ reduced unit op (cut v d)
   ended out same ends = ext_get_or unit out (reduced unit op (cut v d))
       (same ∙ sym (length-map (cut v d) (product unit op) ∙ length_cut v d))
-      (λ j h. let l : j < length d = omega arith in ends j l ∙ value j l ∙ sym (get_d_cut (product unit op) unit v d j l))
+      (λ j h. let l : j < length d = omega arith in ends j l ∙ value j l ∙ sym (get_or-cut (product unit op) unit v d j l))

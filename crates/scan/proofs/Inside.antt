@@ -5,7 +5,7 @@ use Rattle.monoid.specs.Laws.{Laws, product}
 use Rattle.monoid.specs.Lifted.{lifted}
 use Rattle.monoid.specs.Segments.{places, cut, running, scanned, element}
 use Rattle.monoid.proofs.Segments.{upto, length-places}
-use Rattle.monoid.proofs.Running.{length-running, get_d_running, scanned_more, length-scanned, product-within}
+use Rattle.monoid.proofs.Running.{length-running, get_or-running, scanned_more, length-scanned, product-within}
 use Rattle.scan.specs.Scans.{Scanned}
 
 module _ {M : Type 0} {unit : M} {op : M → M → M} (laws : Laws unit op) (v : List M) (d : List ℕ) (full : sum d ≡ length v)
@@ -44,7 +44,7 @@ module _ {M : Type 0} {unit : M} {op : M → M → M} (laws : Laws unit op) (v :
       let long_zs : length zs ≡ length v - at = length-set (drop at xs) 0 unit ∙ rest_long in
       let long_front : length (take n zs) ≡ n = length-take-le n zs (omega arith) in
       ext_get_or unit (take n zs) (running op unit segment) (long_front ∙ sym (length-running laws unit segment ∙ segment_long))
-      (λ k l. get_or-take n zs k unit (omega arith) ∙ place k (omega arith) ∙ sym (get_d_running laws segment k (omega (arith, segment_long))))
+      (λ k l. get_or-take n zs k unit (omega arith) ∙ place k (omega arith) ∙ sym (get_or-running laws segment k (omega (arith, segment_long))))
     where
       place : (k : ℕ) → k < n → get_or (set (drop at xs) 0 unit) k unit ≡ product unit op (take k segment)
       place zero l = let most = upto d j h in get_or-set_same (drop at xs) 0 unit unit (rw rest_long (omega arith))
