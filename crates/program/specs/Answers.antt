@@ -1,5 +1,5 @@
 -- What the calls on programs answer.
-use Rattle.std.specs.Prelude.{◌≡◌, ℕ, List, vec_items, Result, MatchResult}
+use Rattle.std.specs.Prelude.{◌≡◌, ℕ, List, [], vec_items, Result, MatchResult}
 use Rattle.types.specs.declared.table.TypeTable.{TypeTable}
 use Rattle.types.specs.Types.{Ty}
 use Rattle.types.specs.Table as table
@@ -9,7 +9,9 @@ use Rattle.lang.specs.Outcome.{ok, refused}
 use Rattle.lang.specs.Check.{Checked, check}
 use Rattle.reader.specs.Reading.{occurrences_of}
 use Rattle.typing.specs.declared.parts.Note.{Note}
+use Rattle.judging.specs.Judging.{begin}
 use Rattle.typing.specs.Holding.{held}
+use Rattle.program.specs.declared.memory.Memory.{Memory}
 use Rattle.program.specs.declared.memory.Rejected.{Rejected}
 use Rattle.program.specs.declared.read.ReadProgram.{ReadProgram}
 use Rattle.program.specs.declared.checked.CheckedProgram.{CheckedProgram}
@@ -39,6 +41,14 @@ type_of p i = table.type_of (types_of p) i
 -- it is the program c
 abbrev pub Is : CheckedProgram → Checked → Type 0
 Is p c = Holds (done_in p) (held p.checker) c
+
+-- nothing was read into it, and nothing judged
+abbrev pub IsFresh : Memory → Type 0
+IsFresh m = (occurrences_of m.table ≡ []) × (held m.checker ≡ begin)
+
+-- the memory that the program took, as the program left it
+abbrev pub IsMemoryOf : CheckedProgram → Memory → Type 0
+IsMemoryOf p m = (m.table ≡ p.table) × (m.checker ≡ p.checker)
 
 -- the text is read, or the reader refuses it
 abbrev pub Unread : List ℕ → LoadFault → Type 0

@@ -5,7 +5,7 @@ ghost use Rattle.lang.specs.Check.{Checked};
 ghost use Rattle.judging.specs.Acts.{Resolves};
 ghost use Rattle.judging.specs.Occurrences.{program_occs};
 ghost use Rattle.typing.specs.Codes.{Under, note_codes, note_of};
-ghost use Rattle.program.specs.Answers.{done_in, types_of, noted, type_of, Is};
+ghost use Rattle.program.specs.Answers.{done_in, types_of, noted, type_of, Is, IsMemoryOf};
 
 use super::super::memory::Memory;
 use super::CheckedProgram;
@@ -61,7 +61,9 @@ impl CheckedProgram {
     }
 
     // Its memory, for another program.
-    pub fn release(self) -> Memory {
+    pub fn release(self) -> Memory
+        ensures { IsMemoryOf self result }
+    {
         let CheckedProgram { table, checker } = self;
         Memory { table, checker }
     }

@@ -1,7 +1,7 @@
 // From a text to a program.
-ghost use Rattle.std.specs.Result.{MatchResult};
+ghost use Rattle.std.specs.Prelude.{IfOk, MatchResult};
 ghost use Rattle.reader.specs.Reading.{Rejects};
-ghost use Rattle.program.specs.Answers.{ReadAs, LoadedAs};
+ghost use Rattle.program.specs.Answers.{IsFresh, ReadAs, LoadedAs};
 ghost use Rattle.program.specs.Stages.{Tabled};
 
 use super::super::checked::CheckedProgram;
@@ -22,7 +22,9 @@ pub(crate) fn fill(table: &mut Table, text: &[u8]) -> Result<(), ReadFault>
 
 impl Memory {
     // Takes all the memory that a program needs.
-    pub fn new(heap: Global) -> Result<Memory, AllocError> {
+    pub fn new(heap: Global) -> Result<Memory, AllocError>
+        ensures { IfOk result (λ m. IsFresh m) }
+    {
         let table = Table::new(heap)?;
         let checker = Checker::new(heap)?;
         Ok(Memory { table, checker })
