@@ -4,7 +4,7 @@ use Rattle.tokens.specs.declared.kind.Kind.{Kind}
 use Rattle.tokens.specs.declared.kind.Name.{Name}
 use Rattle.tokens.specs.declared.kind.Token.{Token}
 use Rattle.tokens.specs.Kinds.{kind_at}
-use Rattle.tokens.specs.Faults.{Refusal}
+use Rattle.refusal.specs.declared.Refusal.{Refusal}
 use Rattle.grammar.specs.declared.occurrence.Unary.{Unary}
 use Rattle.grammar.specs.Tree.{Fold, Tree}
 use Rattle.grammar.specs.Grammar.{word, folder, Chain, sums, Sort, programs, types, expressions, tests, chains, posts, atoms, operands, linked, Derives, by_program, by_int, by_bool, by_both, by_many, by_let, by_if, by_test, by_linked, by_atom, by_number, by_true, by_false, by_name, by_group, by_pair, by_list, by_empty, by_each, by_sieve, by_word, by_part, by_fold, by_operand}

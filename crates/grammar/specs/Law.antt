@@ -4,7 +4,7 @@ use Rattle.tokens.specs.declared.kind.Kind.{Kind}
 use Rattle.tokens.specs.declared.kind.Name.{Name}
 use Rattle.tokens.specs.declared.kind.Token.{Token}
 use Rattle.tokens.specs.Kinds.{code, kind_at, place_at}
-use Rattle.tokens.specs.Faults.{Refusal}
+use Rattle.refusal.specs.declared.Refusal.{Refusal}
 use Rattle.grammar.specs.declared.occurrence.Infix.{Infix}
 use Rattle.grammar.specs.declared.occurrence.Operation.{Operation}
 use Rattle.grammar.specs.declared.occurrence.Occurrence.{Occurrence}

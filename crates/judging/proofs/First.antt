@@ -1,7 +1,7 @@
 -- A refusal is that of the first occurrence that refuses.
 use Rattle.std.proofs.Common.{◌≡◌, ℕ, List, [], ◌∷◌, ◌++◌, ap, ◌∙◌, arith}
 use mathlib.Core.Path as P
-use Rattle.tokens.specs.Faults.{Refusal}
+use Rattle.refusal.specs.declared.Refusal.{Refusal}
 use Rattle.grammar.specs.declared.occurrence.Occurrence.{Occurrence}
 use Rattle.lang.specs.Outcome.{Out, ok, refused, then}
 use Rattle.judging.specs.Judging.{State, step, judge}

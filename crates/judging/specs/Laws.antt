@@ -1,7 +1,7 @@
 -- Judging a program occurrence by occurrence is checking it.
 use Rattle.std.specs.Prelude.{◌≡◌, ℕ, ◌≤◌, ◌↔◌, List, [], ◌∷◌, ◌++◌}
 use Rattle.tokens.specs.declared.kind.Token.{Token}
-use Rattle.tokens.specs.Faults.{Refusal}
+use Rattle.refusal.specs.declared.Refusal.{Refusal}
 use Rattle.grammar.specs.declared.occurrence.Occurrence.{Occurrence}
 use Rattle.grammar.specs.Grammar.{programs, Derives}
 use Rattle.grammar.specs.Tree.{Tree, occs}

@@ -1,6 +1,6 @@
 -- Answers and refusals.
 use Rattle.std.specs.Prelude.{ℕ}
-use Rattle.tokens.specs.Faults.{Refusal}
+use Rattle.refusal.specs.declared.Refusal.{Refusal}
 
 -- an answer, or the first refusal
 pub data Out (A : Type 0) : Type 0 where

@@ -1,7 +1,7 @@
 -- From stage to stage.
 use Rattle.std.proofs.Common.{◌≡◌, ℕ, ◌≤◌, List, length, IfOk, Ok, Err, Result, sym, refl, ap, ◌∙◌, subst, inr, MatchResult}
 use mathlib.Core.Logic.{∥∥₁_map}
-use Rattle.tokens.specs.Faults.{Refusal}
+use Rattle.refusal.specs.declared.Refusal.{Refusal}
 use Rattle.grammar.specs.declared.occurrence.Occurrence.{Occurrence}
 use Rattle.grammar.specs.Tree.{Tree, occs}
 use Rattle.lang.specs.Outcome.{Out, ok, refused, then}

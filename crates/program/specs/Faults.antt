@@ -1,5 +1,5 @@
 -- The number and the place of each refusal.
-use Rattle.tokens.specs.Faults.{Refusal}
+use Rattle.refusal.specs.declared.Refusal.{Refusal}
 use Rattle.reader.specs.Faults.{of_read}
 use Rattle.typing.specs.Faults.{of_check}
 use Rattle.program.specs.declared.fault.LoadFault.{LoadFault}

@@ -1,6 +1,6 @@
 -- What holds at each stage. A stage may have been come to in several ways.
 use Rattle.std.specs.Prelude.{◌≡◌, ℕ, ◌≤◌, List, length}
-use Rattle.tokens.specs.Faults.{Refusal}
+use Rattle.refusal.specs.declared.Refusal.{Refusal}
 use Rattle.grammar.specs.declared.occurrence.Occurrence.{Occurrence}
 use Rattle.grammar.specs.Tree.{Tree, occs}
 use Rattle.lang.specs.Outcome.{ok, refused}

@@ -4,6 +4,7 @@ ghost use Rattle.program.specs.declared.fault.LoadFault.TheVariants.{Read, Check
 ghost use Rattle.program.specs.Faults.{of_load};
 
 use reader::fault::ReadFault;
+use refusal::Refusal;
 use typing::fault::CheckFault;
 
 // The text was refused by the reader, or what was read by the checker.
@@ -29,23 +30,13 @@ impl From<CheckFault> for LoadFault {
     }
 }
 
-impl LoadFault {
-    // The number of the refusal.
-    pub fn number(self) -> u8
-        ensures { result ≡ (of_load self).number }
-    {
-        match self {
-            LoadFault::Read(f) => f.number(),
-            LoadFault::Check(f) => f.number(),
-        }
-    }
+impl From<LoadFault> for Refusal {
+    ghost from_gives = { λ f r. r ≡ of_load f };
 
-    pub fn place(self) -> usize
-        ensures { result ≡ (of_load self).place }
-    {
-        match self {
-            LoadFault::Read(f) => f.place(),
-            LoadFault::Check(f) => f.place(),
+    fn from(f: LoadFault) -> Refusal {
+        match f {
+            LoadFault::Read(f) => Refusal::from(f),
+            LoadFault::Check(f) => Refusal::from(f),
         }
     }
 }

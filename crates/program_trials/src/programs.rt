@@ -1,11 +1,11 @@
 // Programs that are loaded, each in the memory of the one before.
 use program::memory::{Memory, Rejected};
+use refusal::Refusal;
 
 fn show_refusal(rt: &HostRuntime, rejected: Rejected) -> anyhow::Result<Memory> {
     let Rejected { fault, memory } = rejected;
-    let number = fault.number();
-    let place = fault.place();
-    println!(rt; "refused {number} at {place}")?;
+    let refusal = Refusal::from(fault);
+    println!(rt; "{refusal}")?;
     Ok(memory)
 }
 

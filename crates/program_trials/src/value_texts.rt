@@ -1,6 +1,7 @@
 // Texts of values.
 use crate::hex;
 use monoid::int::Int;
+use refusal::Refusal;
 use texts::print::print_value;
 use texts::read::read_value;
 use types::table::{CAPACITY, TypeTable};
@@ -86,7 +87,11 @@ fn prints_back(
     let mut shorter = vec![in rt.alloc(); b'.'; text.len().saturating_sub(1)]?;
     match print_value(types, code, cells, shorter.as_mut_slice()) {
         Ok(_) => Ok(false),
-        Err(fault) => Ok(fault.number() == 21 && fault.place() == text.len()),
+        Err(fault) => Ok(Refusal::from(fault)
+            == Refusal {
+                number: 21,
+                place: text.len(),
+            }),
     }
 }
 
@@ -107,9 +112,8 @@ fn try_value(rt: &HostRuntime, kind: &[u8], digits: &[u8]) -> anyhow::Result<()>
             }
         }
         Err(fault) => {
-            let number = fault.number();
-            let place = fault.place();
-            println!(rt; "refused {number} at {place}")?;
+            let refusal = Refusal::from(fault);
+            println!(rt; "{refusal}")?;
         }
     }
     Ok(())

@@ -4,7 +4,7 @@ use Rattle.std.proofs.lemmas.Bool.{cases_lt}
 use Rattle.tokens.specs.declared.kind.Kind.{Kind}
 use Rattle.tokens.specs.declared.kind.Token.{Token}
 use Rattle.tokens.specs.Kinds.{kind_at, is_stop, unstopped}
-use Rattle.tokens.specs.Faults.{Refusal}
+use Rattle.refusal.specs.declared.Refusal.{Refusal}
 use Rattle.grammar.specs.Tree.{occs}
 use Rattle.grammar.specs.Grammar.{programs, Derives}
 use Rattle.grammar.specs.Law.{refusal_at, Refuses, Reads, some, Stands}

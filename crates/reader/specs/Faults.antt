@@ -1,5 +1,6 @@
 -- The number and the place of each refusal.
-use Rattle.tokens.specs.Faults.{Refusal, of_token}
+use Rattle.refusal.specs.declared.Refusal.{Refusal}
+use Rattle.tokens.specs.Faults.{of_token}
 use Rattle.reader.specs.declared.fault.ParseFault.{ParseFault}
 use Rattle.reader.specs.declared.fault.ParseFault.TheVariants.{Token, OverLimit, Forbidden}
 use Rattle.reader.specs.declared.fault.ReadFault.{ReadFault}

@@ -4,6 +4,7 @@ ghost use Rattle.reader.specs.declared.fault.ParseFault.TheVariants.{Token};
 ghost use Rattle.reader.specs.declared.fault.ReadFault.TheVariants.{Parse};
 ghost use Rattle.reader.specs.Faults.{of_parse, of_read};
 
+use refusal::Refusal;
 use tokens::fault::TokenFault;
 
 // What stands in place of a token, the token past the last that may be, or a token or an end that the grammar forbids there.
@@ -22,24 +23,14 @@ impl From<TokenFault> for ParseFault {
     }
 }
 
-impl ParseFault {
-    pub fn number(self) -> u8
-        ensures { result ≡ (of_parse self).number }
-    {
-        match self {
-            ParseFault::Token(f) => f.number(),
-            ParseFault::OverLimit(_) => 4,
-            ParseFault::Forbidden(_) => 3,
-        }
-    }
+impl From<ParseFault> for Refusal {
+    ghost from_gives = { λ f r. r ≡ of_parse f };
 
-    pub fn place(self) -> usize
-        ensures { result ≡ (of_parse self).place }
-    {
-        match self {
-            ParseFault::Token(f) => f.place(),
-            ParseFault::OverLimit(at) => at,
-            ParseFault::Forbidden(at) => at,
+    fn from(f: ParseFault) -> Refusal {
+        match f {
+            ParseFault::Token(f) => Refusal::from(f),
+            ParseFault::OverLimit(place) => Refusal { number: 4, place },
+            ParseFault::Forbidden(place) => Refusal { number: 3, place },
         }
     }
 }
@@ -59,22 +50,16 @@ impl From<ParseFault> for ReadFault {
     }
 }
 
-impl ReadFault {
-    pub fn number(self) -> u8
-        ensures { result ≡ (of_read self).number }
-    {
-        match self {
-            ReadFault::TooLong => 1,
-            ReadFault::Parse(f) => f.number(),
-        }
-    }
+impl From<ReadFault> for Refusal {
+    ghost from_gives = { λ f r. r ≡ of_read f };
 
-    pub fn place(self) -> usize
-        ensures { result ≡ (of_read self).place }
-    {
-        match self {
-            ReadFault::TooLong => 4096,
-            ReadFault::Parse(f) => f.place(),
+    fn from(f: ReadFault) -> Refusal {
+        match f {
+            ReadFault::TooLong => Refusal {
+                number: 1,
+                place: 4096,
+            },
+            ReadFault::Parse(f) => Refusal::from(f),
         }
     }
 }

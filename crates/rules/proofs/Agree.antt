@@ -1,7 +1,7 @@
 -- The vector run agrees with the evaluation rules: by induction on the expression.
 use Rattle.std.proofs.Common.{◌≡◌, ℕ, ◌+◌, ◌≤◌, Bool, true, false, not, T, leb, List, [], ◌∷◌, map, length, sym, refl, ap, ◌∙◌, subst, add-zero, arith, leb→le}
 use Rattle.monoid.specs.Segments.{concat, cut}
-use Rattle.tokens.specs.Faults.{Refusal}
+use Rattle.refusal.specs.declared.Refusal.{Refusal}
 use Rattle.types.specs.Types.{Ty, list}
 use Rattle.lang.specs.Values.{sum_by}
 use Rattle.lang.specs.Expr.{scalar, Expr, Args, con, group, var, bind, prim, ite, each, over, nil, more}

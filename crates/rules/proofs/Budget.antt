@@ -2,7 +2,7 @@
 use Rattle.std.proofs.Common.{◌≡◌, ℕ, ◌+◌, ◌<◌, ◌≤◌, Bool, true, false, not, T, leb, sym, refl, ap, ◌∙◌, subst, add-zero, add_assoc, arith, le→leb, leb→le}
 use mathlib.Core.Option.{Option, none, some}
 use lib.Dec.{nleb→lt}
-use Rattle.tokens.specs.Faults.{Refusal}
+use Rattle.refusal.specs.declared.Refusal.{Refusal}
 use Rattle.rules.specs.Outcome.{Outcome, ok, fail, Work, plus, ◌>>=◌, cost, lift}
 use Rattle.rules.specs.Run.{Run, go, give, test, charged, charge}
 use Rattle.rules.specs.Run as Run

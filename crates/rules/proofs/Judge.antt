@@ -1,7 +1,7 @@
 -- What a budget makes of a list of charged occurrences and what stands at its end, as a function; it does what is said of it.
 use Rattle.std.proofs.Common.{◌≡◌, ℕ, ◌+◌, ◌<◌, ◌≤◌, Bool, true, false, not, T, leb, ◌⊎◌, List, [], ◌∷◌, sym, refl, ap, ◌∙◌, inl, inr, arith, le→leb, leb→le}
 use lib.Dec.{nleb→lt}
-use Rattle.tokens.specs.Faults.{Refusal}
+use Rattle.refusal.specs.declared.Refusal.{Refusal}
 use Rattle.rules.specs.Outcome.{refusal, Outcome, ok, fail}
 use Rattle.rules.specs.Run.{Run, spent}
 use Rattle.rules.specs.Trace.{Charge, Trace, total, Over, here, further}

@@ -1,7 +1,7 @@
 -- Only a zero divisor, a place outside and lengths that do not fit make a primitive fail.
 use Rattle.std.proofs.Common.{◌≡◌, ℕ, Bool, true, false, cond, not, ◌⊎◌, List, [], ◌∷◌, map, length, sym, ap, subst, inl, inr, zero-le}
 use mathlib.Core.Option.{Option, none, some}
-use Rattle.tokens.specs.Faults.{Refusal}
+use Rattle.refusal.specs.declared.Refusal.{Refusal}
 use Rattle.monoid.specs.Segments.{concat, cut}
 use Rattle.types.specs.Types.{Ty, list}
 use Rattle.grammar.specs.declared.occurrence.Infix.TheVariants.{Add, Subtract, Multiply, Divide, Remainder, Same, Less}

@@ -1,7 +1,7 @@
 -- The occurrences of a vector run stand in the order of the expression's.
 use Rattle.std.proofs.Common.{◌≡◌, ℕ, not, List, [], ◌∷◌, ◌++◌, map, length, sym, refl, ap, ◌∙◌, subst, append_assoc, append-nil}
 use mathlib.Core.Option.{Option, none, some}
-use Rattle.tokens.specs.Faults.{Refusal}
+use Rattle.refusal.specs.declared.Refusal.{Refusal}
 use Rattle.monoid.specs.Segments.{concat, cut}
 use Rattle.types.specs.Types.{Ty, list}
 use Rattle.lang.specs.Values.{sum_by}

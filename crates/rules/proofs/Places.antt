@@ -2,7 +2,7 @@
 use Rattle.std.proofs.Common.{◌≡◌, ℕ, ◌+◌, Bool, true, false, cond, not, eqb, List, [], ◌∷◌, ◌++◌, map, length, sym, refl, ap, ◌∙◌, subst, add-zero, arith}
 use mathlib.Core.Path.{fun_ext}
 use mathlib.Core.Option.{Option, none, some}
-use Rattle.tokens.specs.Faults.{Refusal}
+use Rattle.refusal.specs.declared.Refusal.{Refusal}
 use Rattle.monoid.specs.Segments.{concat, cut}
 use Rattle.types.specs.Types.{Ty, list}
 use Rattle.lang.specs.Values.{Val, sum_by}

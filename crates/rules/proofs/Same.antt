@@ -1,6 +1,6 @@
 -- The two kinds of run, side by side.
 use Rattle.std.proofs.Common.{◌≡◌, ℕ, [], ◌∷◌, sym, ap, ◌∙◌, subst, zero-le, add-zero, zero-add}
-use Rattle.tokens.specs.Faults.{Refusal}
+use Rattle.refusal.specs.declared.Refusal.{Refusal}
 use Rattle.rules.specs.Outcome.{ok, Work}
 use Rattle.rules.specs.Eval.{eval}
 use Rattle.rules.specs.Laws.{Each, no_more, one_more, SameLaw, IdleLaw}

@@ -1,6 +1,6 @@
 -- The evaluation rules: the value and the work of an expression in an environment, or the number and place of its first failure.
 use Rattle.std.specs.Prelude.{cond, List}
-use Rattle.tokens.specs.Faults.{Refusal}
+use Rattle.refusal.specs.declared.Refusal.{Refusal}
 use Rattle.types.specs.Types.{Ty, list}
 use Rattle.lang.specs.Values.{Val}
 use Rattle.lang.specs.Expr.{scalar, Expr, Args, con, group, var, bind, prim, ite, each, over, nil, more}

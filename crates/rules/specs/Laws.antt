@@ -1,6 +1,6 @@
 -- The two kinds of run answer what the rules say, where that is within the budget.
 use Rattle.std.specs.Prelude.{◌≡◌, ℕ, ◌+◌, ◌≤◌, ◌⊎◌, ◌↔◌, List, [], ◌∷◌, length, ◌≢◌}
-use Rattle.tokens.specs.Faults.{Refusal}
+use Rattle.refusal.specs.declared.Refusal.{Refusal}
 use Rattle.types.specs.Types.{Ty}
 use Rattle.lang.specs.Values.{Val, sum_by}
 use Rattle.lang.specs.Expr.{Expr}

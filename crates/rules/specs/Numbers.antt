@@ -1,6 +1,6 @@
 -- The numbers of a run's refusals.
 use Rattle.std.specs.Prelude.{◌≡◌, ℕ, List}
-use Rattle.tokens.specs.Faults.{Refusal}
+use Rattle.refusal.specs.declared.Refusal.{Refusal}
 use Rattle.types.specs.Types.{Ty}
 use Rattle.lang.specs.Expr.{Expr}
 use Rattle.rules.specs.Outcome.{fail}

@@ -1,7 +1,7 @@
 -- The places of an expression's occurrences in the order of evaluation: operands from the left, then the node; a fork before what it
 -- leads to, its join after; the list of a comprehension, its filter, its body.
 use Rattle.std.specs.Prelude.{◌≡◌, ℕ, List, [], ◌∷◌, ◌++◌, map}
-use Rattle.tokens.specs.Faults.{Refusal}
+use Rattle.refusal.specs.declared.Refusal.{Refusal}
 use Rattle.types.specs.Types.{Ty}
 use Rattle.lang.specs.Expr.{Expr, Args, con, group, var, bind, prim, ite, each, over, nil, more}
 use Rattle.rules.specs.Outcome.{ok, fail}

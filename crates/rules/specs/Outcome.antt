@@ -1,7 +1,7 @@
 -- Outcomes with work: a value and the work that it took, or a fault; and how they are put together, from the left.
 use Rattle.std.specs.Prelude.{ℕ, ◌+◌, Bool, cond, List, [], ◌∷◌}
 use Rattle.std.proofs.Math.Option.{Option, none, some}
-use Rattle.tokens.specs.Faults.{Refusal}
+use Rattle.refusal.specs.declared.Refusal.{Refusal}
 
 -- the fault of the rules and runs: a refusal's number and place
 abbrev pub refusal : ℕ → ℕ → Refusal

@@ -1,7 +1,7 @@
 -- Runs under a budget: from the charges so far to an answer and the charges then, or to a refusal.
 use Rattle.std.specs.Prelude.{ℕ, ◌+◌, Bool, true, false, List, [], ◌∷◌, nat_le}
 use Rattle.std.proofs.Math.Option.{Option, none, some}
-use Rattle.tokens.specs.Faults.{Refusal}
+use Rattle.refusal.specs.declared.Refusal.{Refusal}
 use Rattle.rules.specs.Outcome.{refusal, Outcome, ok, fail}
 
 abbrev pub Run : Type 0 → Type 0

@@ -1,6 +1,6 @@
 -- Worked runs: a program, a house, an input, a budget; what the direct run and the vector run come to.
 use Rattle.std.specs.Prelude.{◌≡◌, ℕ, List, [], ◌∷◌, codes}
-use Rattle.tokens.specs.Faults.{Refusal}
+use Rattle.refusal.specs.declared.Refusal.{Refusal}
 use Rattle.monoid.specs.Ints.{int_zero}
 use Rattle.monoid.specs.declared.int.Int.{Int}
 use Rattle.lang.specs.Values.{Val}

@@ -2,7 +2,7 @@
 use Rattle.std.proofs.Common.{◌≡◌, ℕ, ◌+◌, ◌-◌, ◌*◌, ◌≤◌, Bool, true, false, cond, T, leb, List, length, ap, ◌∙◌, subst, add_assoc, zero-add, one-add, arith, leb→le}
 use Rattle.std.proofs.lemmas.Bool.{lt-ltb, cond-true}
 use Rattle.monoid.specs.declared.int.Int.{Int}
-use Rattle.tokens.specs.Faults.{Refusal}
+use Rattle.refusal.specs.declared.Refusal.{Refusal}
 use Rattle.rules.specs.Outcome.{Outcome as Answer, ok, fail}
 use Rattle.rules.specs.Outcome.{refusal}
 use Rattle.rules.specs.Run.{Run, go, charge, charged, spent}

@@ -1,7 +1,7 @@
 -- What the machine's run of a table comes to.
 use Rattle.std.specs.Prelude.{◌≡◌, ℕ, ◌+◌, ◌*◌, ◌<◌, ◌≤◌, List, ◌++◌, length}
 use Rattle.monoid.specs.declared.int.Int.{Int}
-use Rattle.tokens.specs.Faults.{Refusal}
+use Rattle.refusal.specs.declared.Refusal.{Refusal}
 use Rattle.types.specs.Types.{Ty}
 use Rattle.lang.specs.Values.{Val}
 use Rattle.lang.specs.Expr.{Expr}

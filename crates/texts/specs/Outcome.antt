@@ -1,6 +1,6 @@
 -- What reading a whole text answers.
 use Rattle.std.specs.Prelude.{◌≡◌, ℕ, ◌<◌, List, ◌++◌, length, drop, Result, MatchResult}
-use Rattle.tokens.specs.Faults.{Refusal}
+use Rattle.refusal.specs.declared.Refusal.{Refusal}
 use Rattle.monoid.specs.declared.int.Int.{Int}
 use Rattle.types.specs.Types.{Ty}
 use Rattle.lang.specs.Values.{Val, size}

@@ -2,6 +2,8 @@
 ghost use Rattle.std.specs.Prelude.{◌≡◌};
 ghost use Rattle.texts.specs.Outcome.{of_read, of_print};
 
+use refusal::Refusal;
+
 #[derive(Clone, Copy)]
 pub enum ReadFault {
     // The text is no value of the type: the length of its longest beginning that also begins the text of one.
@@ -10,22 +12,16 @@ pub enum ReadFault {
     TooLarge,
 }
 
-impl ReadFault {
-    pub fn number(self) -> u8
-        ensures { result ≡ (of_read self).number }
-    {
-        match self {
-            ReadFault::NoValue(_) => 11,
-            ReadFault::TooLarge => 12,
-        }
-    }
+impl From<ReadFault> for Refusal {
+    ghost from_gives = { λ f r. r ≡ of_read f };
 
-    pub fn place(self) -> usize
-        ensures { result ≡ (of_read self).place }
-    {
-        match self {
-            ReadFault::NoValue(place) => place,
-            ReadFault::TooLarge => 0,
+    fn from(f: ReadFault) -> Refusal {
+        match f {
+            ReadFault::NoValue(place) => Refusal { number: 11, place },
+            ReadFault::TooLarge => Refusal {
+                number: 12,
+                place: 0,
+            },
         }
     }
 }
@@ -36,16 +32,13 @@ pub struct PrintFault {
     pub needed: usize,
 }
 
-impl PrintFault {
-    pub fn number(self) -> u8
-        ensures { result ≡ (of_print self).number }
-    {
-        21
-    }
+impl From<PrintFault> for Refusal {
+    ghost from_gives = { λ f r. r ≡ of_print f };
 
-    pub fn place(self) -> usize
-        ensures { result ≡ (of_print self).place }
-    {
-        self.needed
+    fn from(f: PrintFault) -> Refusal {
+        Refusal {
+            number: 21,
+            place: f.needed,
+        }
     }
 }

@@ -3,6 +3,7 @@
 
 use anyhow::anyhow;
 use reader::table::Table;
+use refusal::Refusal;
 use scan::sequential::Sequential;
 use std::env;
 use std::io::{Read, Write};
@@ -23,7 +24,8 @@ fn read_input(rt: &HostRuntime) -> anyhow::Result<Vec<u8>> {
     Ok(text)
 }
 
-fn show_refusal(rt: &HostRuntime, text: &[u8], number: u8, place: usize) -> anyhow::Result<()> {
+fn show_refusal(rt: &HostRuntime, text: &[u8], refusal: Refusal) -> anyhow::Result<()> {
+    let Refusal { number, place } = refusal;
     let meaning = show::meaning(number);
     eprintln!(rt; "refused: {number} at {place}: {meaning}")?;
     eprintln!(rt; "{}", show::caret(rt.alloc(), text, place)?)?;
@@ -39,7 +41,7 @@ fn check(rt: &HostRuntime) -> anyhow::Result<()> {
             println!(rt; "reads: {count} occurrences")?;
             Ok(())
         }
-        Err(fault) => show_refusal(rt, text.as_slice(), fault.number(), fault.place()),
+        Err(fault) => show_refusal(rt, text.as_slice(), Refusal::from(fault)),
     }
 }
 
@@ -67,7 +69,7 @@ fn run_totals(rt: &HostRuntime) -> anyhow::Result<()> {
     match totals(&mut engine, heap, text.as_slice(), output.as_mut_slice()) {
         Ok(report) => show_report(rt, output.as_slice(), report),
         Err(fault) => match fault.refusal() {
-            Some(refusal) => show_refusal(rt, text.as_slice(), refusal.number, refusal.place),
+            Some(refusal) => show_refusal(rt, text.as_slice(), refusal),
             None => Err(anyhow!("out of memory")),
         },
     }

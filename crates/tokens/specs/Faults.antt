@@ -1,13 +1,9 @@
 -- The number and the place of each refusal.
-use Rattle.std.specs.Prelude.{ℕ}
+use Rattle.refusal.specs.declared.Refusal.{Refusal}
 use Rattle.tokens.specs.declared.fault.TokenFault.{TokenFault}
 use Rattle.tokens.specs.declared.fault.TokenFault.TheVariants.{NoToken, TooLarge, TooLong}
 use Rattle.tokens.specs.declared.kind.Kind.{Kind}
 use Rattle.tokens.specs.declared.kind.Kind.TheVariants as kind
-
-pub record Refusal : Type 0 where
-  pub number : ℕ
-  pub place : ℕ
 
 abbrev pub of_token : TokenFault → Refusal
 of_token (NoToken p) = record { number = 2; place = p }

@@ -39,7 +39,7 @@ fn next(text: &[u8], i: usize, tokens: usize) -> Token
                 token
             }
         }
-        Err(fault) => stop(fault.kind(), i),
+        Err(fault) => stop(Kind::from(fault), i),
     }
 }
 

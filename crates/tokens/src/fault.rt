@@ -3,6 +3,7 @@ ghost use Rattle.std.specs.Prelude.{◌≡◌};
 ghost use Rattle.tokens.specs.Faults.{of_token, stop_of};
 
 use super::kind::Kind;
+use refusal::Refusal;
 
 // Each with the place of the first byte: of what begins no token, of a number too large, of a name too long.
 #[derive(Clone, Copy)]
@@ -12,29 +13,23 @@ pub enum TokenFault {
     TooLong(usize),
 }
 
-impl TokenFault {
-    // The number of the refusal.
-    pub fn number(self) -> u8
-        ensures { result ≡ (of_token self).number }
-    {
-        2
-    }
+impl From<TokenFault> for Refusal {
+    ghost from_gives = { λ f r. r ≡ of_token f };
 
-    pub fn place(self) -> usize
-        ensures { result ≡ (of_token self).place }
-    {
-        match self {
-            TokenFault::NoToken(at) => at,
-            TokenFault::TooLarge(at) => at,
-            TokenFault::TooLong(at) => at,
+    fn from(f: TokenFault) -> Refusal {
+        match f {
+            TokenFault::NoToken(place) | TokenFault::TooLarge(place) | TokenFault::TooLong(place) =>
+                Refusal { number: 2, place },
         }
     }
+}
 
-    // The kind that stands in the list of tokens for it.
-    pub fn kind(self) -> Kind
-        ensures { result ≡ stop_of self }
-    {
-        match self {
+// The kind that stands in the list of tokens for it.
+impl From<TokenFault> for Kind {
+    ghost from_gives = { λ f r. r ≡ stop_of f };
+
+    fn from(f: TokenFault) -> Kind {
+        match f {
             TokenFault::NoToken(_) => Kind::NoToken,
             TokenFault::TooLarge(_) => Kind::TooLarge,
             TokenFault::TooLong(_) => Kind::TooLong,

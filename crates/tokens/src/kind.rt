@@ -3,12 +3,12 @@ ghost use Rattle.std.specs.Prelude.{◌≡◌};
 ghost use Rattle.tokens.specs.Kinds.{code, is_stop};
 
 // A name: its bytes, at most sixteen, and zeros behind them. So two names are the same if their arrays are.
-#[derive(Clone, Copy)]
+#[derive(Clone, Copy, PartialEq, Eq)]
 pub struct Name {
     pub bytes: [u8; 16],
 }
 
-#[derive(Clone, Copy)]
+#[derive(Clone, Copy, PartialEq, Eq)]
 pub enum Kind {
     // What may stand after the last token: the end of the text, bytes that begin no token, a number too large,
     // a name too long, one token more than there may be.
@@ -129,7 +129,7 @@ impl Kind {
 }
 
 // A token, with the places in the text of its first byte and past its last.
-#[derive(Clone, Copy)]
+#[derive(Clone, Copy, PartialEq, Eq)]
 pub struct Token {
     pub kind: Kind,
     pub at: usize,

@@ -8,7 +8,7 @@ use Rattle.values.specs.Reading.{NoText}
 use Rattle.values.specs.Texts.{int_text, list_text, rows_text}
 use Rattle.values.specs.declared.fault.ReadFault.{ReadFault}
 use Rattle.values.specs.declared.fault.ReadFault.TheVariants.{NoValue as NoValueRead, Memory as MemoryRead}
-use Rattle.totals.specs.declared.report.Refusal.{Refusal}
+use Rattle.refusal.specs.declared.Refusal.{Refusal}
 use Rattle.totals.specs.declared.report.Report.{Report}
 use Rattle.totals.specs.declared.report.TotalsFault.{TotalsFault}
 use Rattle.totals.specs.declared.report.TotalsFault.TheVariants.{NoValue, TooShort, Memory}

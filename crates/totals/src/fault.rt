@@ -3,7 +3,8 @@ ghost use Rattle.std.specs.Prelude.{◌≡◌};
 ghost use Rattle.totals.specs.declared.report.TotalsFault.TheVariants.{Memory, TooShort};
 ghost use Rattle.totals.specs.Totals.{of_read, refusal_of};
 
-use crate::report::{Refusal, TotalsFault};
+use crate::report::TotalsFault;
+use refusal::Refusal;
 use std::alloc::AllocError;
 use values::fault::ReadFault;
 use values::print::TooShort as Shortage;

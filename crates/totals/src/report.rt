@@ -17,10 +17,3 @@ pub enum TotalsFault {
     TooShort(usize),
     Memory,
 }
-
-// A refusal as it is shown: its number and its place.
-#[derive(Clone, Copy)]
-pub struct Refusal {
-    pub number: u8,
-    pub place: usize,
-}

@@ -19,11 +19,7 @@ pub fn try_totals(rt: &HostRuntime, text: &[u8]) -> anyhow::Result<()> {
             println!(rt; " players {players} games {games} operations {operations}")?;
         }
         Err(fault) => match fault.refusal() {
-            Some(refusal) => {
-                let number = refusal.number;
-                let place = refusal.place;
-                println!(rt; "refused {number} at {place}")?;
-            }
+            Some(refusal) => println!(rt; "{refusal}")?,
             None => println!(rt; "out of memory")?,
         },
     }

@@ -1,6 +1,7 @@
 // Texts of programs.
 use grammar::occurrence::What;
 use reader::table::Table;
+use refusal::Refusal;
 
 fn digit(b: u8) -> u8 {
     match b {
@@ -25,9 +26,8 @@ pub fn try_hex(rt: &HostRuntime, table: &mut Table, hex: &[u8]) -> anyhow::Resul
     match table.read(text.as_slice()) {
         Ok(()) => println!(rt; "reads")?,
         Err(fault) => {
-            let number = fault.number();
-            let place = fault.place();
-            println!(rt; "refused {number} at {place}")?;
+            let refusal = Refusal::from(fault);
+            println!(rt; "{refusal}")?;
         }
     }
     Ok(())
@@ -77,9 +77,8 @@ pub fn try_text(rt: &HostRuntime, table: &mut Table, text: &[u8]) -> anyhow::Res
             println!(rt; "end")?;
         }
         Err(fault) => {
-            let number = fault.number();
-            let place = fault.place();
-            println!(rt; "refused {number} at {place}")?;
+            let refusal = Refusal::from(fault);
+            println!(rt; "{refusal}")?;
         }
     }
     Ok(())
@@ -100,9 +99,8 @@ pub fn try_nested(rt: &HostRuntime, table: &mut Table, count: usize) -> anyhow::
             println!(rt; "reads {count}")?;
         }
         Err(fault) => {
-            let number = fault.number();
-            let place = fault.place();
-            println!(rt; "refused {number} at {place}")?;
+            let refusal = Refusal::from(fault);
+            println!(rt; "{refusal}")?;
         }
     }
     Ok(())

@@ -42,3 +42,15 @@ same (list a) int = none
 same (list a) bool = none
 same (list a) (pair c d) = none
 same (list a) (list c) = same_list (same a c)
+
+abbrev pub NotList : Ty → Type 0
+NotList int = Unit {0}
+NotList bool = Unit {0}
+NotList (pair a b) = Unit {0}
+NotList (list a) = ⊥
+
+abbrev pub NotPair : Ty → Type 0
+NotPair int = Unit {0}
+NotPair bool = Unit {0}
+NotPair (pair a b) = ⊥
+NotPair (list a) = Unit {0}

@@ -2,7 +2,7 @@
 use Rattle.std.proofs.Common.{◌≡◌, ℕ, ◌+◌, ◌<◌, ◌≤◌, Bool, true, false, cond, leb, List, [], ◌∷◌, drop, sym, refl, ap, ◌∙◌, subst, arith, length-drop}
 use mathlib.Core.Option.{Option, none}
 use Rattle.std.proofs.lemmas.Bool.{le-leb, lt-leb}
-use Rattle.tokens.specs.Faults.{Refusal}
+use Rattle.refusal.specs.declared.Refusal.{Refusal}
 use Rattle.types.specs.Types.{Ty, int, bool, pair, list, parts, same, same_pair, same_list}
 use Rattle.types.specs.Entries.{counted}
 use Rattle.grammar.specs.declared.occurrence.Infix.{Infix}

@@ -1,5 +1,5 @@
 -- The number and the place of each refusal.
-use Rattle.tokens.specs.Faults.{Refusal}
+use Rattle.refusal.specs.declared.Refusal.{Refusal}
 use Rattle.typing.specs.declared.fault.CheckFault.{CheckFault}
 use Rattle.typing.specs.declared.fault.CheckFault.TheVariants.{UnknownName, Unfit, TooLarge, WrongResult, TooHeavy}
 

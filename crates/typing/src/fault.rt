@@ -2,6 +2,8 @@
 ghost use Rattle.std.specs.Prelude.{◌≡◌};
 ghost use Rattle.typing.specs.Faults.{of_check};
 
+use refusal::Refusal;
+
 // Each with the place of the occurrence: a name that nothing binds, operands that do not fit, a type or a list that is
 // too large. The other two are of the program as a whole.
 #[derive(Clone, Copy)]
@@ -13,29 +15,22 @@ pub enum CheckFault {
     TooHeavy,
 }
 
-impl CheckFault {
-    // The number of the refusal.
-    pub fn number(self) -> u8
-        ensures { result ≡ (of_check self).number }
-    {
-        match self {
-            CheckFault::UnknownName(_) => 5,
-            CheckFault::Unfit(_) => 6,
-            CheckFault::TooLarge(_) => 7,
-            CheckFault::WrongResult => 8,
-            CheckFault::TooHeavy => 9,
-        }
-    }
+impl From<CheckFault> for Refusal {
+    ghost from_gives = { λ f r. r ≡ of_check f };
 
-    pub fn place(self) -> usize
-        ensures { result ≡ (of_check self).place }
-    {
-        match self {
-            CheckFault::UnknownName(at) => at,
-            CheckFault::Unfit(at) => at,
-            CheckFault::TooLarge(at) => at,
-            CheckFault::WrongResult => 0,
-            CheckFault::TooHeavy => 0,
+    fn from(f: CheckFault) -> Refusal {
+        match f {
+            CheckFault::UnknownName(place) => Refusal { number: 5, place },
+            CheckFault::Unfit(place) => Refusal { number: 6, place },
+            CheckFault::TooLarge(place) => Refusal { number: 7, place },
+            CheckFault::WrongResult => Refusal {
+                number: 8,
+                place: 0,
+            },
+            CheckFault::TooHeavy => Refusal {
+                number: 9,
+                place: 0,
+            },
         }
     }
 }

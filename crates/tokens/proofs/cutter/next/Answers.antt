@@ -19,4 +19,4 @@ returns-else-is_full c =
 
 pub returns-in-Err : goal.returns-in-Err
 returns-in-Err c =
-    subst (Next _ _ _) (sym c.stop-in-Err.ensures) (said.stop (subst (Stop _ _ _) (sym c.kind.ensures) (said.unspelled c.in-Err.ensures.1)))
+    subst (Next _ _ _) (sym c.stop-in-Err.ensures) (said.stop (subst (Stop _ _ _) (sym c.from.ensures) (said.unspelled c.in-Err.ensures.1)))
