@@ -8,50 +8,36 @@ ghost use Rattle.lang.specs.Laws.{TypingLaw, UniqueLaw, SmallLaw, DerivedLaw};
 ghost use Rattle.lang.specs.Limits.{LimitsLaw};
 
 // Elaboration answers an expression of a type where the type rules give that type, and only there.
-pub fn typing_agrees() -> u8
+pub fn typing_agrees()
     ensures { TypingLaw }
-{
-    0
-}
+{}
 
 // A tree has at most one type.
-pub fn types_are_unique() -> u8
+pub fn types_are_unique()
     ensures { UniqueLaw }
-{
-    0
-}
+{}
 
 // Where no type in scope has more than 8 parts, no expression's type has.
-pub fn types_stay_small() -> u8
+pub fn types_stay_small()
     ensures { SmallLaw }
-{
-    0
-}
+{}
 
 // Then each node of what elaboration answers is within the limits.
-pub fn limits_are_kept() -> u8
+pub fn limits_are_kept()
     ensures { LimitsLaw }
-{
-    0
-}
+{}
 
 // A program is accepted where its header, its body's type and its weight keep the rules, and only there.
-pub fn checking_is_exact() -> u8
+pub fn checking_is_exact()
     ensures { CheckLaw }
-{
-    0
-}
+{}
 
 // Small programs, with what they come to.
-pub fn examples_stand() -> u8
+pub fn examples_stand()
     ensures { Examples }
-{
-    0
-}
+{}
 
 // The trees that the grammar derives for programs are programs.
-pub fn derivations_are_programs() -> u8
+pub fn derivations_are_programs()
     ensures { DerivedLaw }
-{
-    0
-}
+{}

@@ -11,8 +11,6 @@ pub mod spelling;
 ghost use Rattle.program.specs.Loading.{OneLaw};
 
 // A text comes to one thing only: one program, or one refusal.
-pub fn loading_is_exact() -> u8
+pub fn loading_is_exact()
     ensures { OneLaw }
-{
-    0
-}
+{}

@@ -87,11 +87,13 @@ fn prints_back(
     let mut shorter = vec![in rt.alloc(); b'.'; text.len().saturating_sub(1)]?;
     match print_value(types, code, cells, shorter.as_mut_slice()) {
         Ok(_) => Ok(false),
-        Err(fault) => Ok(Refusal::from(fault)
-            == Refusal {
-                number: 21,
-                place: text.len(),
-            }),
+        Err(fault) => Ok(
+            Refusal::from(fault)
+                == Refusal {
+                    number: 21,
+                    place: text.len(),
+                },
+        ),
     }
 }
 

@@ -4,8 +4,6 @@
 ghost use Rattle.worked.specs.Worked.{WorkedLaw};
 
 // Each row of the table stands: program, input, budget, value and work or refusal.
-pub fn worked_runs_stand() -> u8
+pub fn worked_runs_stand()
     ensures { WorkedLaw }
-{
-    0
-}
+{}
