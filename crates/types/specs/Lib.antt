@@ -1,3 +1,4 @@
 pub mod Types
 pub mod Entries
 pub mod Table
+pub mod TypeRefs

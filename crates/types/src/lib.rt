@@ -3,3 +3,4 @@
 
 pub mod node;
 pub mod table;
+pub mod type_ref;

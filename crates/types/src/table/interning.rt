@@ -1,6 +1,6 @@
 // The types of the table, and their codes.
 ghost use Rattle.std.specs.Prelude.{◌≡◌, ◌<◌, ◌≤◌, [], ◌∷◌, length, IfOk, vec_capacity, Decides, MatchOption};
-ghost use Rattle.types.specs.Types.{int, bool, pair, list, NotList, NotPair};
+ghost use Rattle.types.specs.Types.{int, bool, pair, list};
 ghost use Rattle.types.specs.Entries.{ty_of, above, counted, first, NodeAt, Missing};
 ghost use Rattle.types.specs.Table.{types_in, type_of, Shows, Agrees, Interned};
 
@@ -88,28 +88,6 @@ impl TypeTable {
         ensures { Shows (types_in self.now) code result }
     {
         self.entries[code].node
-    }
-
-    // The code of the elements' type, if it is a list.
-    pub fn element(&self, code: usize) -> Option<usize>
-        requires { code < length (types_in self.now) }
-        ensures { MatchOption result (NotList (type_of self.now code)) (λ e. (e < length (types_in self.now)) × (type_of self.now code ≡ list (type_of self.now e))) }
-    {
-        match self.node(code) {
-            TypeNode::List(element) => Some(element),
-            _ => None,
-        }
-    }
-
-    // The codes of the halves' types, if it is a pair.
-    pub fn halves(&self, code: usize) -> Option<(usize, usize)>
-        requires { code < length (types_in self.now) }
-        ensures { MatchOption result (NotPair (type_of self.now code)) (λ h. (h.0 < length (types_in self.now)) × (h.1 < length (types_in self.now)) × (type_of self.now code ≡ pair (type_of self.now h.0) (type_of self.now h.1))) }
-    {
-        match self.node(code) {
-            TypeNode::Pair(left, right) => Some((left, right)),
-            _ => None,
-        }
     }
 
     // How many parts a type has, or a million if it has more.
