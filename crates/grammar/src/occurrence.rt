@@ -1,4 +1,5 @@
 // What a program does, step by step, in the order of its evaluation.
+use std::fmt;
 use tokens::kind::Name;
 
 #[derive(Clone, Copy)]
@@ -63,6 +64,41 @@ pub enum What {
     TypeList,
     Parameter(Name),
     Result,
+}
+
+impl fmt::Display for What {
+    fn fmt<W: fmt::Write>(&self, f: &mut fmt::Formatter<W>) -> fmt::Result {
+        f.write_str(match self {
+            What::Number(_) => "number",
+            What::True => "true",
+            What::False => "false",
+            What::Variable(_) => "variable",
+            What::Bind(_) => "bind",
+            What::LetEnd => "let-end",
+            What::IfFork => "if-fork",
+            What::IfElse => "if-else",
+            What::IfJoin => "if-join",
+            What::EachFork(_) => "each-fork",
+            What::EachFilter => "each-filter",
+            What::EachJoin => "each-join",
+            What::Operate(_) => "operate",
+            What::Apply(_) => "apply",
+            What::Index => "index",
+            What::Group => "group",
+            What::Pair => "pair",
+            What::List(_) => "list",
+            What::Empty => "empty",
+            What::Part => "part",
+            What::Scan(_) => "scan",
+            What::Reduce(_) => "reduce",
+            What::TypeInt => "type-int",
+            What::TypeBool => "type-bool",
+            What::TypePair => "type-pair",
+            What::TypeList => "type-list",
+            What::Parameter(_) => "parameter",
+            What::Result => "result",
+        })
+    }
 }
 
 // An occurrence, with the place in the text of its node's own token.

@@ -1,5 +1,7 @@
 -- Marking variables as used: a list of flags, innermost first, onto the flags of the variables that were in scope earlier.
 use Rattle.std.proofs.Common.{◌≡◌, ℕ, suc, ◌-◌, ◌<◌, ◌≤◌, Bool, true, false, cond, ◌||◌, ltb, List, [], ◌∷◌, length, set, replicate, sym, refl, ap, ◌∙◌, inl, inr, arith}
+use Rattle.std.proofs.lemmas.Bool.Decides.{nat_tests}
+use Rattle.std.proofs.Math.Bool.{or-false, or-true, or_assoc}
 use Rattle.std.proofs.lemmas.Bool.{lt-ltb, le-ltb, cases_lt}
 use Rattle.std.proofs.lemmas.List.{length-replicate}
 use Rattle.types.specs.Types.{Ty}
@@ -22,19 +24,6 @@ adding (f ∷ fs) (u ∷ us) = (u || f) ∷ adding fs us
 unfoldable pub marked : List Bool → List Bool → List Bool
 marked [] us = us
 marked (f ∷ fs) us = cond (ltb (length fs) (length us)) (adding (f ∷ fs) us) (marked fs us)
-
--- ---- on bools
-or_false : (u : Bool) → (u || false) ≡ u
-or_false true = refl
-or_false false = refl
-
-or_true : (u : Bool) → (u || true) ≡ true
-or_true true = refl
-or_true false = refl
-
-or_more : (u a b : Bool) → (u || (a || b)) ≡ ((u || a) || b)
-or_more true a b = refl
-or_more false a b = refl
 
 -- ---- lengths
 pub flags_length : (Γ : List Ty) (m : Mask Γ) → length (flags Γ m) ≡ length Γ
@@ -64,7 +53,7 @@ marked-length (f ∷ fs) us = elim (cases_lt (length fs) (length us)) [ inl h �
 adding_none : (Γ : List Ty) (us : List Bool) → adding (flags Γ (empty Γ)) us ≡ us
 adding_none [] us = refl
 adding_none (t ∷ Γ) [] = refl
-adding_none (t ∷ Γ) (u ∷ us) = rw (or_false u, adding_none Γ us)
+adding_none (t ∷ Γ) (u ∷ us) = rw (or-false u, adding_none Γ us)
 
 pub marked_none : (Γ : List Ty) (us : List Bool) → marked (flags Γ (empty Γ)) us ≡ us
 unfolding marked
@@ -75,7 +64,7 @@ marked_none (t ∷ Γ) us = elim (cases_lt (length (flags Γ (empty Γ))) (lengt
 adding_twice : (Γ : List Ty) (a b : Mask Γ) (us : List Bool) → adding (flags Γ (union Γ a b)) us ≡ adding (flags Γ b) (adding (flags Γ a) us)
 adding_twice [] a b us = refl
 adding_twice (t ∷ Γ) a b [] = refl
-adding_twice (t ∷ Γ) a b (u ∷ us) = rw (or_more u a.0 b.0, adding_twice Γ a.1 b.1 us)
+adding_twice (t ∷ Γ) a b (u ∷ us) = rw (← or_assoc u a.0 b.0, adding_twice Γ a.1 b.1 us)
 
 pub marked_twice : (Γ : List Ty) (a b : Mask Γ) (us : List Bool) → marked (flags Γ (union Γ a b)) us ≡ marked (flags Γ b) (marked (flags Γ a) us)
 unfolding marked
@@ -107,9 +96,9 @@ marked_twice (t ∷ Γ) a b us = elim (cases_lt (length Γ) (length us)) [ inl h
 -- ---- one variable
 adding_single : {Γ : List Ty} {t : Ty} (x : Var Γ t) (us : List Bool) → adding (flags Γ (single x)) us ≡ set us (index_of x) true
 adding_single here [] = refl
-adding_single (here {Γ = Γ}) (u ∷ us) = rw (or_true u, adding_none Γ us)
+adding_single (here {Γ = Γ}) (u ∷ us) = rw (or-true u, adding_none Γ us)
 adding_single (there x) [] = refl
-adding_single (there x) (u ∷ us) = rw (or_false u, adding_single x us)
+adding_single (there x) (u ∷ us) = rw (or-false u, adding_single x us)
 
 used_out : (n k : ℕ) (us : List Bool) → k < n - length us → used_at n k us ≡ us
 used_out n k us h = ap (λ b. cond b us (set us (k - (n - length us)) true)) (lt-ltb k (n - length us) h)
@@ -121,10 +110,7 @@ used-set : (n k i : ℕ) (us : List Bool) → n - length us ≤ k → k - (n - l
 used-set n k i us h e = used-at n k us h ∙ ap (λ j. set us j true) e
 
 used-suc : (n k : ℕ) (us : List Bool) → length us ≤ n → used_at n k us ≡ used_at (suc n) (suc k) us
-used-suc n k us h = elim (cases_lt k (n - length us)) [
-  | inl l ↦ used_out n k us l ∙ sym (used_out (suc n) (suc k) us (omega arith))
-  | inr l ↦ used-at n k us l ∙ sym (used-set (suc n) (suc k) (k - (n - length us)) us (omega arith) (omega arith))
-]
+used-suc n k us h = grind (arith, nat_tests)
 
 pub marked-single : {Γ : List Ty} {t : Ty} (x : Var Γ t) (us : List Bool) → marked (flags Γ (single x)) us ≡ used_at (length Γ) (index_of x) us
 marked-single (here {t = t} {Γ = Γ}) us = elim (cases_lt (length Γ) (length us)) [

@@ -1,5 +1,6 @@
 -- Operands on the stack, and the primitive that takes them off.
 use Rattle.std.proofs.Common.{◌≡◌, ℕ, ◌+◌, ◌≤◌, List, [], ◌∷◌, ◌++◌, reverse, length, take, drop, sym, refl, ap, ◌∙◌, arith}
+use Rattle.std.proofs.Math.Seq.{take-append_seam, drop-append_seam}
 use Rattle.std.proofs.lemmas.List.{append_assoc, append-nil, reverse-append, reverse-reverse, length-reverse}
 use Rattle.types.specs.Types.{Ty, parts}
 use Rattle.types.specs.Entries.{counted}
@@ -77,18 +78,10 @@ more_stacked {ts = ts} {a = a} s es x =
     (omega (arith, last_weight es x)) ∙
     ap (λ k. made s.scope (k ++ s.stack) (marks (flags _ (frees (add_last es x))) s.forks) (s.notes ++ notes_of (add_last es x)) (s.weight + weights (add_last es x))) (sym (reverse-append ts (a ∷ [])))
 
-take_all : {A : Type 0} (xs ys : List A) → take (length xs) (xs ++ ys) ≡ xs
-take_all [] ys = refl
-take_all (x ∷ xs) ys = ap (λ zs. x ∷ zs) (take_all xs ys)
-
-drop_all : {A : Type 0} (xs ys : List A) → drop (length xs) (xs ++ ys) ≡ ys
-drop_all [] ys = refl
-drop_all (x ∷ xs) ys = drop_all xs ys
-
 pub stacked_operands : (n : ℕ) (ts : List Ty) (k : List Ty) → length ts ≡ n → reverse (take n (reverse ts ++ k)) ≡ ts
 stacked_operands n ts k e =
-    ap (λ m. reverse (take m (reverse ts ++ k))) (sym e ∙ sym (length-reverse ts)) ∙ ap reverse (take_all (reverse ts) k) ∙ reverse-reverse ts
+    ap (λ m. reverse (take m (reverse ts ++ k))) (sym e ∙ sym (length-reverse ts)) ∙ ap reverse (take-append_seam (reverse ts) k) ∙ reverse-reverse ts
 
 pub stacked_popped : (n : ℕ) (ts : List Ty) (s : State) → length ts ≡ n → popped n (stacked ts s) ≡ s
 stacked_popped n ts s e =
-    ap (λ k. made s.scope k s.forks s.notes s.weight) (ap (λ m. drop m (reverse ts ++ s.stack)) (sym e ∙ sym (length-reverse ts)) ∙ drop_all (reverse ts) s.stack)
+    ap (λ k. made s.scope k s.forks s.notes s.weight) (ap (λ m. drop m (reverse ts ++ s.stack)) (sym e ∙ sym (length-reverse ts)) ∙ drop-append_seam (reverse ts) s.stack)

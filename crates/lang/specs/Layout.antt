@@ -1,14 +1,11 @@
 -- How values lie in memory: one value as a row of cells, or several values of a type as vectors.
-use Rattle.std.specs.Prelude.{ℕ, Bool, cond, List, [], ◌∷◌, ◌++◌, map, length, pos}
+use Rattle.std.specs.Prelude.{ℕ, List, [], ◌∷◌, ◌++◌, map, length, pos}
 use Rattle.monoid.specs.declared.int.Int.{Int}
-use Rattle.monoid.specs.Ints.{int_of, int_zero, int_one}
+pub use Rattle.monoid.specs.Ints.{flag}
+use Rattle.monoid.specs.Ints.{int_of}
 use Rattle.monoid.specs.Segments.{concat}
 use Rattle.types.specs.Types.{Ty, int, bool, pair, list}
 use Rattle.lang.specs.Values.{Val}
-
--- a truth value as an int
-abbrev pub flag : Bool → Int
-flag b = cond b int_one int_zero
 
 -- a length as an int
 abbrev pub count : ℕ → Int

@@ -1,122 +1,81 @@
--- Segments and their places. Assumes nothing.
-use Rattle.std.proofs.Common.{◌≡◌, ℕ, zero, suc, ◌+◌, ◌-◌, ◌<◌, ◌≤◌, Bool, true, false, List, [], ◌∷◌, ◌++◌, map, length, get_or, take, drop, set, sum, sym, refl, ap, ◌∙◌, ap₂, append_assoc, append-nil, arith, length-append, length-drop, take-append-drop}
-use Rattle.std.proofs.lemmas.List.{take_more, drop_more, drop-drop, map-append, set-append_right, length-take-le, take_all, take_at, drop_at, get_or-drop, get_or_at, length-map}
-use Rattle.std.proofs.lemmas.List.Sums.{sum_by-cons, sum_by_more, sum_by-take-le}
+-- Segments side by side, one after the other. Assumes nothing.
+use Rattle.std.proofs.Common.{◌≡◌, ℕ, suc, ◌+◌, ◌-◌, ◌<◌, ◌≤◌, Bool, true, false, List, [], ◌∷◌, ◌++◌, map, length, get_or, take, drop, sum, sym, refl, ap, ◌∙◌, ap₂, append_assoc, arith, length-append, length-drop}
+use Rattle.std.proofs.lemmas.List.{drop_more, drop-drop, length-take-le, take_at, drop_at}
+use borrow.Rule.Slice.PartMut.{put_mid}
+use Rattle.std.proofs.lemmas.Slice.{take-put_mid}
+use Rattle.std.proofs.lemmas.List.Sums.{sum_by-cons, sum_by-drop_more}
 use Rattle.monoid.specs.Laws.{Laws, product}
 use Rattle.monoid.specs.Lifted.{lifted}
-use Rattle.monoid.specs.Segments.{marked, plain, places, cut, concat}
+use Rattle.monoid.specs.Segments.{marked, places, cut, concat}
 use Rattle.monoid.proofs.Lifts.{length_marked, product_inside}
 
-module _ {M : Type 0} where
-  cut-append : (v : List M) (d d' : List ℕ) → cut v (d ++ d') ≡ cut v d ++ cut (drop (sum d) v) d'
-  cut-append v [] d' = refl
-  cut-append v (n ∷ d) d' =
-      ap (λ xss. take n v ∷ xss)
-      (cut-append (drop n v) d d' ∙ ap (λ w. cut (drop n v) d ++ cut w d') (drop-drop (sum d) n v ∙ ap (λ k. drop k v) (sym (sum_by-cons (λ x. x) n d))))
+module _ {M : Type 0} (v : List M) (d : List ℕ) where
+  -- the segments before j end at the place at; v has just what those from j on need
+  pub record Reached (j at : ℕ) : Type 0 where
+    pub passed : List (Bool × M)
+    pub long : length passed ≡ at
+    pub is : passed ++ places (cut (drop at v) (drop j d)) ≡ places (cut v d)
+    pub left : at + sum (drop j d) ≡ length v
 
-  places-append : (xss yss : List (List M)) → places (xss ++ yss) ≡ places xss ++ places yss
-  places-append [] yss = refl
-  places-append (xs ∷ xss) yss = ap (λ ps. marked xs ++ ps) (places-append xss yss) ∙ sym (append_assoc (marked xs) (places xss) (places yss))
+  pub reached_none : sum d ≡ length v → Reached 0 0
+  reached_none full = record { passed = []; long = refl; is = refl; left = omega arith }
 
-  pub length-places : (v : List M) (d : List ℕ) → sum d ≤ length v → length (places (cut v d)) ≡ sum d
-  length-places v [] h = refl
-  length-places v (n ∷ d) h =
-      let s = sum_by-cons (λ x. x) n d in
-      let here : length (take n v) ≡ n = length-take-le n v (omega arith) in
-      let rest : length (drop n v) ≡ length v - n = length-drop n v in
-      length-append (marked (take n v)) (places (cut (drop n v) d))
-      ∙ ap₂ ◌+◌ (length_marked (take n v) ∙ here) (length-places (drop n v) d (omega arith)) ∙ sym s
+  module _ (j at : ℕ) (so_far : Reached j at) (h : j < length d) where
+    -- segment j
+    abbrev pub segment : List M
+    segment = take (get_or d j 0) (drop at v)
 
-  -- the segment j of those that d cuts v into, with what stands before it and after it
-  module _ (v : List M) (d : List ℕ) (j : ℕ) (h : j < length d) where
-    at_split : d ≡ take j d ++ (get_or d j 0 ∷ drop (j + 1) d)
-    at_split = sym (take-append-drop j d) ∙ ap (λ e. take j d ++ e) (drop_more d j 0 h)
+    pub fits : at + get_or d j 0 ≤ length v
+    fits = omega (arith, so_far.left, sum_by-drop_more (λ x. x) d j 0 h)
 
-    pub cut_split : cut v d ≡ cut v (take j d) ++ (take (get_or d j 0) (drop (sum (take j d)) v) ∷ cut (drop (get_or d j 0) (drop (sum (take j d)) v)) (drop (j + 1) d))
-    cut_split = ap (cut v) at_split ∙ cut-append v (take j d) (get_or d j 0 ∷ drop (j + 1) d)
+    pub segment_long : length segment ≡ get_or d j 0
+    segment_long = length-take-le _ (drop at v) (rw length-drop (omega (arith, fits)))
 
-    pub places_split : places (cut v d) ≡ places (cut v (take j d)) ++ (marked (take (get_or d j 0) (drop (sum (take j d)) v)) ++ places (cut (drop (get_or d j 0) (drop (sum (take j d)) v)) (drop (j + 1) d)))
-    places_split = ap places cut_split ∙ places-append (cut v (take j d)) _
+    -- the part of an output that is for it
+    pub part_long : {X : Type 0} (out : List X) → length out ≡ length v → length (take (at + get_or d j 0 - at) (drop at out)) ≡ get_or d j 0
+    part_long out room = length-take-le _ (drop at out) (rw length-drop (omega (arith, fits))) ∙ omega arith
 
-    pub cut_more : cut v (take (j + 1) d) ≡ cut v (take j d) ++ (take (get_or d j 0) (drop (sum (take j d)) v) ∷ [])
-    cut_more = ap (cut v) (take_more d j 0 h) ∙ cut-append v (take j d) (get_or d j 0 ∷ [])
+    -- what is made of the segments from j on, part by part
+    next_part : {X : Type 0} (F : List (List M) → List X) (f : List M → List X) → ((xs : List M) (xss : List (List M)) → F (xs ∷ xss) ≡ f xs ++ F xss) → (w : List X)
+        → w ++ F (cut (drop at v) (drop j d)) ≡ (w ++ f segment) ++ F (cut (drop (at + get_or d j 0) v) (drop (j + 1) d))
+    next_part F f opens w =
+        ap (λ e. w ++ F (cut (drop at v) e)) (drop_more d j 0 h) ∙ ap (λ ys. w ++ ys) (opens segment _)
+        ∙ sym (append_assoc w (f segment) _) ∙ ap (λ u. (w ++ f segment) ++ F (cut u (drop (j + 1) d))) (drop-drop (get_or d j 0) at v)
 
-    pub places_more : places (cut v (take (j + 1) d)) ≡ places (cut v (take j d)) ++ marked (take (get_or d j 0) (drop (sum (take j d)) v))
-    places_more = ap places cut_more ∙ places-append (cut v (take j d)) _ ∙ ap (λ ps. places (cut v (take j d)) ++ ps) (append-nil (marked (take (get_or d j 0) (drop (sum (take j d)) v))))
+    -- with the places of segment j
+    places_reached : places (cut v d) ≡ so_far.passed ++ (marked segment ++ places (cut (drop (at + get_or d j 0) v) (drop (j + 1) d)))
+    places_reached = sym so_far.is ∙ next_part places marked (λ xs xss. refl) so_far.passed ∙ append_assoc so_far.passed (marked segment) _
 
-  -- a flag raised at the head
-  pub raise : (n : ℕ) (xs : List M) (x : M) → 0 < n → 0 < length xs → x ≡ get_or xs 0 x → set (map plain xs) 0 (true, x) ≡ marked (take n xs) ++ map plain (drop n xs)
-  raise zero xs x h l read = absurd (omega arith)
-  raise (suc n) [] x h l read = absurd (omega arith)
-  raise (suc n) (y ∷ xs) x h l read =
-      ap₂ (λ (a : M) (ps : List (Bool × M)). (true, a) ∷ ps) read (ap (map plain) (sym (take-append-drop n xs)) ∙ map-append plain (take n xs) (drop n xs))
+    -- one part more in the output: by itself, and where a slice of the output was written
+    module _ {X : Type 0} (F : List (List M) → List X) (f : List M → List X) (opens : (xs : List M) (xss : List (List M)) → F (xs ∷ xss) ≡ f xs ++ F xss) (all : List X) where
+      pub part_more : (w w' : List X) → w' ≡ w ++ f segment → w ++ F (cut (drop at v) (drop j d)) ≡ all → w' ++ F (cut (drop (at + get_or d j 0) v) (drop (j + 1) d)) ≡ all
+      part_more w w' more so = ap (λ u. u ++ F (cut (drop (at + get_or d j 0) v) (drop (j + 1) d))) more ∙ sym (next_part F f opens w) ∙ so
 
-module _ {M : Type 0} {unit : M} {op : M → M → M} (laws : Laws unit op) where
-  -- the lift's join of the places up to the end of segment j
-  pub product_segment : (v : List M) (d : List ℕ) (j : ℕ) → j < length d → sum d ≤ length v → 0 < get_or d j 0
-      → product (false, unit) (lifted op) (take (sum (take j d) + get_or d j 0) (places (cut v d))) ≡ (true, product unit op (take (get_or d j 0) (drop (sum (take j d)) v)))
-  product_segment v d j h l some =
-      let ps = places (cut v (take j d)) in
-      let n = get_or d j 0 in
-      let xs = take n (drop (sum (take j d)) v) in
-      let most : sum (take (j + 1) d) ≤ sum d = sum_by-take-le (λ x. x) d (j + 1) in
-      let more : sum (take (j + 1) d) ≡ sum (take j d) + n = sum_by_more (λ x. x) d j 0 h in
-      let long : length ps ≡ sum (take j d) = length-places v (take j d) (omega arith) in
-      let past : length (drop (sum (take j d)) v) ≡ length v - sum (take j d) = length-drop (sum (take j d)) v in
-      let all : length xs ≡ n = length-take-le n (drop (sum (take j d)) v) (omega arith) in
-      let whole : take n xs ≡ xs = take_all n xs (omega arith) in
-      ap₂ (λ (k : ℕ) (qs : List (Bool × M)). product (false, unit) (lifted op) (take (k + n) qs)) (sym long) (places_split v d j h)
-      ∙ product_inside laws ps _ xs n some (omega arith) ∙ ap (λ (ys : List M). (true, product unit op ys)) whole
+      pub part_put : (out ys : List X) → length out ≡ length v → length ys ≡ length (take (at + get_or d j 0 - at) (drop at out)) → ys ≡ f segment → take at out ++ F (cut (drop at v) (drop j d)) ≡ all
+          → take (at + get_or d j 0) (put_mid at (at + get_or d j 0 - at) out ys) ++ F (cut (drop (at + get_or d j 0) v) (drop (j + 1) d)) ≡ all
+      part_put out ys room long is =
+          part_more (take at out) _ (take-put_mid at _ out ys (at + get_or d j 0) (ap (λ n. at + n) (sym (long ∙ part_long out room))) (omega (arith, fits)) ∙ ap (λ zs. take at out ++ zs) is)
 
--- segment j ends within what all cover
-pub upto : (d : List ℕ) (j : ℕ) → j < length d → sum (take j d) + get_or d j 0 ≤ sum d
-upto d j h = omega (arith, sum_by_more (λ x. x) d j 0 h, sum_by-take-le (λ x. x) d (j + 1))
+    pub reached_more : Reached (j + 1) (at + get_or d j 0)
+    reached_more = record {
+      passed = so_far.passed ++ marked segment;
+      long = length-append so_far.passed (marked segment) ∙ ap₂ ◌+◌ so_far.long (length_marked segment ∙ segment_long);
+      is = sym (next_part places marked (λ xs xss. refl) so_far.passed) ∙ so_far.is;
+      left = omega (arith, so_far.left, sum_by-drop_more (λ x. x) d j 0 h);
+    }
 
--- one segment more of the places, the rest plain
-module _ {M : Type 0} (v : List M) (d : List ℕ) (j : ℕ) (h : j < length d) (l : sum d ≤ length v) (at : ℕ) (e : at ≡ sum (take j d)) (ps : List (Bool × M)) (is : ps ≡ places (cut v (take j d)) ++ map plain (drop at v)) where
-  more_places : places (cut v (take (j + 1) d)) ≡ places (cut v (take j d)) ++ marked (take (get_or d j 0) (drop at v))
-  more_places = places_more v d j h ∙ ap (λ k. places (cut v (take j d)) ++ marked (take (get_or d j 0) (drop k v))) (sym e)
-
-  pub head_raised : (x : M) → 0 < get_or d j 0 → x ≡ get_or v at x → set ps at (true, x) ≡ places (cut v (take (j + 1) d)) ++ map plain (drop (at + get_or d j 0) v)
-  head_raised x some read =
-      let front = places (cut v (take j d)) in
-      let n = get_or d j 0 in
-      let rest = drop at v in
-      let most = upto d j h in
-      let fewer : sum (take j d) ≤ length v = omega arith in
-      let long : length front ≡ at = length-places v (take j d) fewer ∙ sym e in
-      let first : at - at ≡ 0 = omega arith in
-      let there : at + 0 ≡ at = omega arith in
-      let left : 0 < length rest = rw (length-drop at v) (omega arith) in
-      let head : x ≡ get_or rest 0 x = read ∙ sym (get_or-drop at v 0 x ∙ ap (λ i. get_or v i x) there) in
-      ap (λ qs. set qs at (true, x)) is ∙ set-append_right front (map plain rest) at at (true, x) long (omega arith)
-      ∙ ap (λ i. front ++ set (map plain rest) i (true, x)) first ∙ ap (λ qs. front ++ qs) (raise n rest x some left head)
-      ∙ sym (append_assoc front (marked (take n rest)) (map plain (drop n rest)))
-      ∙ ap₂ ◌++◌ (sym more_places) (ap (map plain) (drop-drop n at v))
-
-  pub none_raised : get_or d j 0 ≡ 0 → ps ≡ places (cut v (take (j + 1) d)) ++ map plain (drop (at + get_or d j 0) v)
-  none_raised z =
-      let front = places (cut v (take j d)) in
-      let there : at ≡ at + get_or d j 0 = omega arith in
-      is ∙ ap₂ (λ (a b : List (Bool × M)). a ++ b)
-      (sym (more_places ∙ ap (λ n. front ++ marked (take n (drop at v))) z ∙ append-nil front))
-      (ap (λ k. map plain (drop k v)) there)
+    -- the lift's product of the places before the one that is k past the head of segment j; where k is its length, up to its end
+    pub product_reached : {unit : M} {op : M → M → M} → Laws unit op → (k : ℕ) → 0 < k → k ≤ get_or d j 0
+        → product (false, unit) (lifted op) (take (at + k) (places (cut v d))) ≡ (true, product unit op (take k segment))
+    product_reached {unit} {op} laws k some within =
+        ap₂ (λ (i : ℕ) (ps : List (Bool × M)). product (false, unit) (lifted op) (take (i + k) ps)) (sym so_far.long)
+        places_reached
+        ∙ product_inside laws so_far.passed _ segment k some (omega (arith, segment_long))
 
 module _ {M : Type 0} where
   pub length_cut : (v : List M) (d : List ℕ) → length (cut v d) ≡ length d
   length_cut v [] = refl
   length_cut v (n ∷ d) = ap suc (length_cut (drop n v) d)
-
-  -- what is made of segment j, among all
-  pub get_or-cut : {X : Type 0} (f : List M → X) (x : X) (v : List M) (d : List ℕ) (j : ℕ) → j < length d → get_or (map f (cut v d)) j x ≡ f (take (get_or d j 0) (drop (sum (take j d)) v))
-  get_or-cut f x v d j h =
-      let front = cut v (take j d) in
-      let n = get_or d j 0 in
-      let rest = drop (sum (take j d)) v in
-      let long : length (map f front) ≡ j = length-map front f ∙ length_cut v (take j d) ∙ length-take-le j d (omega arith) in
-      ap (λ xss. get_or (map f xss) j x) (cut_split v d j h)
-      ∙ ap (λ ys. get_or ys j x) (map-append f front (take n rest ∷ cut (drop n rest) (drop (j + 1) d)))
-      ∙ get_or_at (map f front) (f (take n rest)) (map f (cut (drop n rest) (drop (j + 1) d))) x j long
 
   -- lists side by side, cut by their lengths, are the lists again
   pub cut-concat : (xss : List (List M)) → cut (concat xss) (map length xss) ≡ xss

@@ -19,6 +19,10 @@ int_zero = record { value = pos 0; ok = lit< tt }
 abbrev pub int_one : Int
 int_one = record { value = pos 1; ok = lit< tt }
 
+-- a truth value as an int
+abbrev pub flag : Bool → Int
+flag b = cond b int_one int_zero
+
 -- the lowest int
 abbrev pub int_least : Int
 int_least = record { value = negsuc (2 ^ hbits width - 1); ok = lit< tt }

@@ -1,17 +1,17 @@
 -- The arithmetic of ints keeps its laws.
-use Rattle.std.specs.Prelude.{◌≡◌, ◌^◌, ◌<◌, Bool, true, false, cond, List, [], ◌∷◌, map, ℤ, pos, negsuc, FitsSigned, bit_or, int_lt, refl}
+use Rattle.std.specs.Prelude.{◌≡◌, ◌^◌, ◌<◌, true, List, [], ◌∷◌, map, ℤ, pos, negsuc, FitsSigned, bit_or, refl}
 use Rattle.std.proofs.Common.{ap, ap₂, sym, ◌∙◌, subst, arith}
 use Rattle.std.proofs.Math.Bridge.{le_prop}
 use Rattle.std.proofs.lemmas.Nat.{or_lt}
 use Rattle.std.specs.Int.Bits.{or_zero_r}
-use Rattle.std.proofs.Math.IntN.{*ℤ_comm, *ℤ-zero}
+use Rattle.std.proofs.Math.IntN.{+ℤ_comm, *ℤ_comm, *ℤ-zero}
 use Rattle.std.specs.Int.Signed.{mag}
 use mir.Val.{to_z, of_z, bits, hbits}
 use mir.ValLaws.{of_z_fits}
 use Rattle.std.proofs.lemmas.Int.{ints, to_z-of_z, of_z-to_z, int_wrap_fits, int_wrap-add_right}
 use Rattle.std.specs.Int.{int_wrap}
 use Rattle.monoid.specs.Laws.{Laws, SemiringLaws, product}
-use Rattle.monoid.specs.Ints.{width, int_zero, int_one, int_least, int_sum, int_product, int_of, larger, zero_number, is_zero, later, int_or, exact_sum, wrapped_sum}
+use Rattle.monoid.specs.Ints.{width, int_zero, int_one, int_least, int_sum, int_product, int_of, larger, zero_number, later, int_or, exact_sum, wrapped_sum}
 use Rattle.monoid.specs.declared.int.Int.{Int}
 use Rattle.monoid.specs.Modular as modular
 use Rattle.monoid.specs.Ors.{or_assoc}
@@ -31,7 +31,7 @@ commuting : (unit : Int) (op : Int → Int → Int) → ((x y : Int) → op x y 
 commuting unit op comm right assoc = record { left = λ x. comm unit x ∙ right x; right = right; assoc = assoc }
 
 sum_commutes : (x y : Int) → int_sum x y ≡ int_sum y x
-sum_commutes x y = ap int_of (modular.sum_comm x.value y.value)
+sum_commutes x y = ap int_of (+ℤ_comm x.value y.value)
 
 product_commutes : (x y : Int) → int_product x y ≡ int_product y x
 product_commutes x y = ap int_of (*ℤ_comm x.value y.value)
@@ -60,33 +60,14 @@ sum_once (x ∷ xs) =
     ap (int_sum x) (sum_once xs) ∙ same_int _ _ (int_wrap-add_right width x.value (exact_sum xs))
 
 -- ---- the larger
-abbrev top : ℤ → ℤ → ℤ
-top a b = cond (int_lt a b) b a
+least_value : (x : Int) → (larger int_least x).value ≡ x.value
+least_value x = let f = fits x in grind (arith, ints)
 
-top_assoc : (a b c : ℤ) → top (top a b) c ≡ top a (top b c)
-top_assoc a b c = grind (arith, ints)
-
-larger_value : (x y : Int) → (larger x y).value ≡ top x.value y.value
-larger_value x y = by (int_lt x.value y.value)
-  where
-    by : (t : Bool) → (cond t y x).value ≡ cond t y.value x.value
-    by true = refl
-    by false = refl
-
-least_top : (a : ℤ) → FitsSigned width a → top int_least.value a ≡ a
-least_top a h = grind (arith, ints)
-
-top_least : (a : ℤ) → FitsSigned width a → top a int_least.value ≡ a
-top_least a h = grind (arith, ints)
+value-least : (x : Int) → (larger x int_least).value ≡ x.value
+value-least x = let f = fits x in grind (arith, ints)
 
 pub max_laws : Laws int_least larger
-max_laws = record {
-  left = λ x. same_int _ _ (larger_value int_least x ∙ least_top x.value (fits x));
-  right = λ x. same_int _ _ (larger_value x int_least ∙ top_least x.value (fits x));
-  assoc = λ x y z. same_int _ _
-      (larger_value (larger x y) z ∙ ap (λ a. top a z.value) (larger_value x y) ∙ top_assoc x.value y.value z.value
-      ∙ sym (larger_value x (larger y z) ∙ ap (top x.value) (larger_value y z)));
-}
+max_laws = record { left = λ x. same_int _ _ (least_value x); right = λ x. same_int _ _ (value-least x); assoc = λ x y z. grind (arith, ints) }
 
 -- ---- the latest
 zero_is : (a : ℤ) → zero_number a ≡ true → a ≡ pos 0
@@ -94,18 +75,10 @@ zero_is (pos n) e = grind arith
 zero_is (negsuc n) e = grind arith
 
 later-zero : (x : Int) → later int_zero x ≡ x
-later-zero x = by (is_zero x) refl
-  where
-    by : (t : Bool) → is_zero x ≡ t → cond t int_zero x ≡ x
-    by true e = same_int _ _ (sym (zero_is x.value e))
-    by false e = refl
+later-zero x = grind (arith, same_int, zero_is)
 
 later_assoc : (x y z : Int) → later (later x y) z ≡ later x (later y z)
-later_assoc x y z = by (is_zero z) refl
-  where
-    by : (t : Bool) → is_zero z ≡ t → cond t (later x y) z ≡ later x (cond t y z)
-    by true e = refl
-    by false e = sym (ap (λ b. cond b x z) e)
+later_assoc x y z = grind arith
 
 pub latest_laws : Laws int_zero later
 latest_laws = record { left = later-zero; right = λ x. refl; assoc = later_assoc }

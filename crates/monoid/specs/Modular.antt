@@ -2,11 +2,11 @@
 use Rattle.std.specs.Prelude.{◌≡◌, ℕ, ◌*◌, ◌^◌, ◌<◌, ℤ, pos, ◌+ℤ◌, ◌*ℤ◌, FitsSigned}
 use Rattle.std.proofs.Math.Path.{ap}
 use Rattle.std.proofs.Common.{sym, ◌∙◌, arith, mod-eq_of_lt}
-use Rattle.std.proofs.Math.IntN.{one, *ℤ-one}
+use Rattle.std.proofs.Math.IntN.{one, +ℤ_idl, +ℤ_assoc, *ℤ-one}
 use mir.Val.{to_z, bits}
 use borrow.Author.Differences.{up, down, same_in, sum_is_lem, product_is}
 use Rattle.std.specs.Int.{int_wrap, Width}
-use Rattle.std.proofs.lemmas.Int.{int_wrap_fits, int_wrap-add_left, int_wrap-add_right, int_wrap-mul_left, int_wrap-mul_right, ints}
+use Rattle.std.proofs.lemmas.Int.{int_wrap_fits, int_wrap-add_left, int_wrap-add_right, int_wrap-mul_left, int_wrap-mul_right}
 
 pub times_assoc : (a b c : ℤ) → (a *ℤ b) *ℤ c ≡ a *ℤ (b *ℤ c)
 times_assoc a b c =
@@ -17,17 +17,12 @@ times_assoc a b c =
 pub times_sum : (a b c : ℤ) → a *ℤ (b +ℤ c) ≡ a *ℤ b +ℤ a *ℤ c
 times_sum a b c = let s = sum_is_lem b c in omega (arith, same_in, sum_is_lem, product_is, ap (λ x. up a * x) s, ap (λ x. down a * x) s)
 
-pub sum_comm : (a b : ℤ) → a +ℤ b ≡ b +ℤ a
-sum_comm a b = omega (arith, ints)
-
 module _ (w : Width) where
   pub zero-sum : (a : ℤ) → FitsSigned w a → int_wrap w (pos 0 +ℤ a) ≡ a
-  zero-sum a fits = let e : pos 0 +ℤ a ≡ a = omega (arith, ints) in ap (int_wrap w) e ∙ int_wrap_fits w a fits
+  zero-sum a fits = ap (int_wrap w) (+ℤ_idl a) ∙ int_wrap_fits w a fits
 
   pub sum_assoc : (a b c : ℤ) → int_wrap w (int_wrap w (a +ℤ b) +ℤ c) ≡ int_wrap w (a +ℤ int_wrap w (b +ℤ c))
-  sum_assoc a b c =
-      let e : (a +ℤ b) +ℤ c ≡ a +ℤ (b +ℤ c) = omega (arith, ints) in
-      int_wrap-add_left w (a +ℤ b) c ∙ ap (int_wrap w) e ∙ sym (int_wrap-add_right w a (b +ℤ c))
+  sum_assoc a b c = int_wrap-add_left w (a +ℤ b) c ∙ ap (int_wrap w) (+ℤ_assoc a b c) ∙ sym (int_wrap-add_right w a (b +ℤ c))
 
   pub times_one : (a : ℤ) → FitsSigned w a → int_wrap w (a *ℤ pos 1) ≡ a
   unfolding one

@@ -1,6 +1,7 @@
 -- Segments side by side, and the places that the lift scans for them.
 use Rattle.std.specs.Prelude.{ℕ, Bool, true, false, List, [], ◌∷◌, ◌++◌, map, take, drop}
 use Rattle.monoid.specs.Laws.{product}
+use Rattle.monoid.specs.declared.segmented.Segments.{Segments}
 
 abbrev pub plain : {M : Type 0} → M → Bool × M
 plain y = (false, y)
@@ -27,6 +28,10 @@ concat (xs ∷ xss) = xs ++ concat xss
 abbrev pub cut : {M : Type 0} → List M → List ℕ → List (List M)
 cut v [] = []
 cut v (n ∷ d) = take n v ∷ cut (drop n v) d
+
+-- the lists of a value of such segments
+abbrev pub lists : {M : Type 0} → Segments M → List (List M)
+lists segments = cut segments.elements.now segments.lengths.now
 
 -- the product of each segment: of an empty one, the unit
 abbrev pub reduced : {M : Type 0} → M → (M → M → M) → List (List M) → List M

@@ -132,6 +132,6 @@ impl Monoid for BitOr {
     }
 
     fn combine(a: Int, b: Int) -> Int {
-        a.bit_or(b)
+        a | b
     }
 }

@@ -1,11 +1,20 @@
-// The segmented lift of a monoid: a raised flag begins a segment, and what stood before it is left out.
-ghost use Rattle.std.specs.Prelude.{false};
+// Segments side by side, and the segmented lift of a monoid.
+ghost use Rattle.std.specs.Prelude.{◌≡◌, false, length, sum};
 ghost use Rattle.monoid.specs.Lifted.{lifted};
 ghost use Rattle.std.proofs.Common.{rules};
 
 use crate::Monoid;
 use std::marker::PhantomData;
 
+// The elements of all segments, and how many each has.
+#[derive(Drop)]
+pub struct Segments<'a, T> {
+    pub elements: &'a [T],
+    pub lengths: &'a [usize],
+    ghost covered: { sum lengths.now ≡ length elements.now },
+}
+
+// A raised flag begins a segment, and what stood before it is left out.
 pub struct Segmented<M> {
     monoid: PhantomData<M>,
 }

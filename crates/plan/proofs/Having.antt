@@ -1,5 +1,6 @@
 -- A table that has the entries of an expression and the free variables of its forks has the expression.
-use Rattle.std.proofs.Common.{◌≡◌, ℕ, ◌+◌, List, [], ◌∷◌, ◌++◌, length, get_or, take, drop, ap, ◌∙◌, arith}
+use Rattle.std.proofs.Common.{◌≡◌, ℕ, ◌+◌, List, [], ◌∷◌, ◌++◌, length, ◌∙◌, arith}
+use Rattle.std.proofs.lemmas.Grind.{common_steps}
 use Rattle.std.proofs.lemmas.List.{append_assoc, length-append, get_or_at, take_at, drop_at}
 use Rattle.types.specs.Types.{Ty}
 use Rattle.lang.specs.Expr.{Expr, Args, con, group, var, bind, prim, ite, each, over, nil, more, union, free}
@@ -8,19 +9,15 @@ use Rattle.plan.specs.declared.table.Entry.{Entry}
 use Rattle.plan.specs.declared.table.Free.{Free}
 use Rattle.plan.specs.Boxes.{boxed, task_of, part}
 use Rattle.plan.specs.Filling.{entry}
-use Rattle.plan.specs.Planned.{blank, Stands, Planned, p_con, p_group, p_var, p_bind, p_prim, p_ite, p_each, p_over, PlannedArgs, p_nil, p_more}
+use Rattle.plan.specs.Planned.{Stands, Planned, p_con, p_group, p_var, p_bind, p_prim, p_ite, p_each, p_over, PlannedArgs, p_nil, p_more}
 use Rattle.plan.proofs.Blocks.{its, span, end, ends, forked, forkeds, past, block, blocks, block_ends, blocks_end}
 
 -- the entry behind the first ones
 stands : (os pre post : List Entry) (m : Mark) (p i : ℕ) → length pre ≡ i → os ≡ pre ++ entry m p ∷ [] ++ post → Stands os i m p
-stands os pre post m p i ei e =
-    let l : length os ≡ length pre + 1 + length post = ap length e ∙ simp length-append in
-    record { within = omega arith; is = ap (λ xs. get_or xs i blank) (e ∙ append_assoc pre (entry m p ∷ []) post) ∙ get_or_at pre (entry m p) post blank i ei }
+stands os pre post m p i ei e = grind (arith, common_steps, length-append, append_assoc, get_or_at)
 
 part-is : (fs pre l post : List Free) (n : ℕ) → length pre ≡ n → fs ≡ pre ++ l ++ post → part fs (span n l) ≡ l
-part-is fs pre l post n en e =
-    let long : length (pre ++ l) ≡ n + length l = length-append pre l ∙ ap (λ k. k + length l) en in
-    ap (λ xs. drop n (take (n + length l) xs)) e ∙ ap (drop n) (take_at (pre ++ l) post (n + length l) long) ∙ drop_at pre l n en
+part-is fs pre l post n en e = grind (arith, common_steps, length-append, take_at, drop_at)
 
 module _ (os : List Entry) (fs : List Free) where
   -- os and fs have these parts one after the other

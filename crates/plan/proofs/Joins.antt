@@ -1,6 +1,7 @@
 -- What a join leaves of a table: the entries of its fork are replaced, and the free variables stand at the end.
-use Rattle.std.proofs.Common.{◌≡◌, ℕ, ◌+◌, ◌-◌, Bool, List, [], ◌∷◌, ◌++◌, length, drop, set, Some, None, sym, refl, ap, ◌∙◌, arith}
-use Rattle.std.proofs.lemmas.List.{append_assoc, length-append, drop_at, set_at}
+use Rattle.std.proofs.Common.{◌≡◌, ℕ, ◌+◌, ◌-◌, Bool, List, [], ◌∷◌, ◌++◌, length, drop, set, Some, None, ap, ◌∙◌, arith}
+use Rattle.std.proofs.lemmas.Grind.{common_steps}
+use Rattle.std.proofs.lemmas.List.{append_assoc, length-append, set_at}
 use Rattle.typing.specs.declared.parts.Use.{Use}
 use Rattle.plan.specs.declared.table.Mark.{Mark}
 use Rattle.plan.specs.declared.table.Entry.{Entry}
@@ -11,9 +12,7 @@ use Rattle.plan.proofs.Blocks.{span}
 
 -- an entry is replaced
 patched : (xs : List Entry) (y : Entry) (ys : List Entry) (z : Entry) → set (xs ++ y ∷ [] ++ ys) (length (xs ++ y ∷ []) - 1) z ≡ xs ++ z ∷ [] ++ ys
-patched xs y ys z =
-    ap (λ l. set l (length (xs ++ y ∷ []) - 1) z) (append_assoc xs (y ∷ []) ys) ∙ set_at xs y ys z (length (xs ++ y ∷ []) - 1) (simp length-append (omega arith)) ∙
-    sym (append_assoc xs (z ∷ []) ys)
+patched xs y ys z = grind (arith, common_steps, append_assoc, set_at, length-append)
 
 -- two are
 patched_both : (xs ys bs : List Entry) (f m g n : Entry) →
@@ -30,33 +29,21 @@ module _ (fs l : List Free) (sc : List Bool) (ks : List Fork) (us vs : List Use)
   -- the free variables, where they begin and where they end
   gathers : {X : Type 0} (G : List Free → ℕ → ℕ → X) →
       let g = gathered (flagged (drop (length us) (us ++ vs)) (length sc)) sc 0 in G (fs ++ g) (length fs) (length (fs ++ g)) ≡ G (fs ++ l) n (n + length l)
-  gathers G =
-      ap (λ x. G (fs ++ x) (length fs) (length (fs ++ x))) (ap (λ x. gathered (flagged x (length sc)) sc 0) (drop_at us vs (length us) refl) ∙ e) ∙
-      ap (λ x. G (fs ++ l) (length fs) x) (length-append fs l) ∙ ap (λ x. G (fs ++ l) x (x + length l)) en
+  gathers G = grind (arith, common_steps)
 
   pub choice_joined : (xs ys bs : List Entry) (f m : Entry) (k j : ℕ) → length (xs ++ f ∷ [] ++ ys ++ m ∷ []) ≡ k → length (xs ++ f ∷ [] ++ ys ++ m ∷ [] ++ bs) ≡ j →
       if_joined b p (filling (xs ++ f ∷ [] ++ ys ++ m ∷ [] ++ bs) fs sc (record { first = length (xs ++ f ∷ []); second = Some (length (xs ++ f ∷ [] ++ ys ++ m ∷ [])); start = length us } ∷ ks) (us ++ vs)) ≡
       filling (xs ++ entry (Mark.IfFork k (span n l)) p ∷ [] ++ ys ++ entry (Mark.IfElse j) p ∷ [] ++ bs ++ entry (Mark.IfJoin b) p ∷ []) (fs ++ l) sc ks (us ++ vs)
   choice_joined xs ys bs f m k j ek ej =
-      gathers (λ gs from to. filling (set (set (xs ++ f ∷ [] ++ ys ++ m ∷ [] ++ bs) (length (xs ++ f ∷ []) - 1) (entry (Mark.IfFork (length (xs ++ f ∷ [] ++ ys ++ m ∷ [])) (record { from = from; to = to })) p)) (length (xs ++ f ∷ [] ++ ys ++ m ∷ []) - 1) (entry (Mark.IfElse (length (xs ++ f ∷ [] ++ ys ++ m ∷ [] ++ bs))) p) ++ entry (Mark.IfJoin b) p ∷ []) gs sc ks (us ++ vs)) ∙
-      ap (λ es. filling (es ++ entry (Mark.IfJoin b) p ∷ []) (fs ++ l) sc ks (us ++ vs)) (patched_both xs ys bs f m _ _) ∙
-      ap (λ x. filling (xs ++ entry (Mark.IfFork x (span n l)) p ∷ [] ++ ys ++ entry (Mark.IfElse (length (xs ++ f ∷ [] ++ ys ++ m ∷ [] ++ bs))) p ∷ [] ++ bs ++ entry (Mark.IfJoin b) p ∷ []) (fs ++ l) sc ks (us ++ vs)) ek ∙
-      ap (λ x. filling (xs ++ entry (Mark.IfFork k (span n l)) p ∷ [] ++ ys ++ entry (Mark.IfElse x) p ∷ [] ++ bs ++ entry (Mark.IfJoin b) p ∷ []) (fs ++ l) sc ks (us ++ vs)) ej
+      let both = patched_both xs ys bs f m (entry (Mark.IfFork k (span n l)) p) (entry (Mark.IfElse j) p) in
+      grind (arith, common_steps, gathers)
 
   pub each_swept : (xs ys bs : List Entry) (f m : Entry) (i j : ℕ) → length (xs ++ f ∷ []) ≡ i → length (xs ++ f ∷ [] ++ ys ++ m ∷ [] ++ bs) ≡ j →
       each_joined b p (filling (xs ++ f ∷ [] ++ ys ++ m ∷ [] ++ bs) fs sc (record { first = length (xs ++ f ∷ []); second = Some (length (xs ++ f ∷ [] ++ ys ++ m ∷ [])); start = length us } ∷ ks) (us ++ vs)) ≡
       filling (xs ++ entry (Mark.EachFork j (span n l)) p ∷ [] ++ ys ++ entry (Mark.EachFilter j) p ∷ [] ++ bs ++ entry (Mark.EachJoin i b) p ∷ []) (fs ++ l) sc ks (us ++ vs)
-  each_swept xs ys bs f m i j ei ej =
-      gathers (λ gs from to. filling (set (set (xs ++ f ∷ [] ++ ys ++ m ∷ [] ++ bs) (length (xs ++ f ∷ []) - 1) (entry (Mark.EachFork (length (xs ++ f ∷ [] ++ ys ++ m ∷ [] ++ bs)) (record { from = from; to = to })) p)) (length (xs ++ f ∷ [] ++ ys ++ m ∷ []) - 1) (entry (Mark.EachFilter (length (xs ++ f ∷ [] ++ ys ++ m ∷ [] ++ bs))) p) ++ entry (Mark.EachJoin (length (xs ++ f ∷ [])) b) p ∷ []) gs sc ks (us ++ vs)) ∙
-      ap (λ es. filling (es ++ entry (Mark.EachJoin (length (xs ++ f ∷ [])) b) p ∷ []) (fs ++ l) sc ks (us ++ vs)) (patched_both xs ys bs f m _ _) ∙
-      ap (λ x. filling (xs ++ entry (Mark.EachFork x (span n l)) p ∷ [] ++ ys ++ entry (Mark.EachFilter x) p ∷ [] ++ bs ++ entry (Mark.EachJoin (length (xs ++ f ∷ [])) b) p ∷ []) (fs ++ l) sc ks (us ++ vs)) ej ∙
-      ap (λ x. filling (xs ++ entry (Mark.EachFork j (span n l)) p ∷ [] ++ ys ++ entry (Mark.EachFilter j) p ∷ [] ++ bs ++ entry (Mark.EachJoin x b) p ∷ []) (fs ++ l) sc ks (us ++ vs)) ei
+  each_swept xs ys bs f m i j ei ej = grind (arith, common_steps, gathers, patched_both, span)
 
   pub over_swept : (xs bs : List Entry) (f : Entry) (i j : ℕ) → length (xs ++ f ∷ []) ≡ i → length (xs ++ f ∷ [] ++ bs) ≡ j →
       each_joined b p (filling (xs ++ f ∷ [] ++ bs) fs sc (record { first = length (xs ++ f ∷ []); second = None; start = length us } ∷ ks) (us ++ vs)) ≡
       filling (xs ++ entry (Mark.EachFork j (span n l)) p ∷ [] ++ bs ++ entry (Mark.EachJoin i b) p ∷ []) (fs ++ l) sc ks (us ++ vs)
-  over_swept xs bs f i j ei ej =
-      gathers (λ gs from to. filling (set (xs ++ f ∷ [] ++ bs) (length (xs ++ f ∷ []) - 1) (entry (Mark.EachFork (length (xs ++ f ∷ [] ++ bs)) (record { from = from; to = to })) p) ++ entry (Mark.EachJoin (length (xs ++ f ∷ [])) b) p ∷ []) gs sc ks (us ++ vs)) ∙
-      ap (λ es. filling (es ++ entry (Mark.EachJoin (length (xs ++ f ∷ [])) b) p ∷ []) (fs ++ l) sc ks (us ++ vs)) (patched xs f bs _) ∙
-      ap (λ x. filling (xs ++ entry (Mark.EachFork x (span n l)) p ∷ [] ++ bs ++ entry (Mark.EachJoin (length (xs ++ f ∷ [])) b) p ∷ []) (fs ++ l) sc ks (us ++ vs)) ej ∙
-      ap (λ x. filling (xs ++ entry (Mark.EachFork j (span n l)) p ∷ [] ++ bs ++ entry (Mark.EachJoin x b) p ∷ []) (fs ++ l) sc ks (us ++ vs)) ei
+  over_swept xs bs f i j ei ej = grind (arith, common_steps, gathers, patched, span)

@@ -6,8 +6,6 @@ pub mod Having
 pub mod Weights
 pub mod Few
 pub mod Gathers
-pub mod Held
-pub mod Collects
 pub mod Growing
 pub mod Turns
 pub mod Whole

@@ -1,5 +1,6 @@
 -- The free variables of an expression, by its uses of variables.
 use Rattle.std.proofs.Common.{◌≡◌, ℕ, suc, ◌≤◌, Bool, false, cond, List, [], ◌∷◌, ◌++◌, map, length, replicate, sym, refl, ap, ◌∙◌, arith}
+use Rattle.std.proofs.lemmas.Grind.{common_steps}
 use Rattle.std.proofs.lemmas.List.{append_assoc, length-map, length-replicate}
 use Rattle.types.specs.Types.{Ty}
 use Rattle.lang.specs.Expr.{Expr, Args, con, group, var, bind, prim, ite, each, over, nil, more, Mask, union, free, frees}
@@ -17,12 +18,11 @@ replay-append (x ∷ xs) ys us = replay-append xs ys _
 -- what is marked in turn
 two_marks : (Γ : List Ty) (a b : Mask Γ) (xs ys : List Use) (us : List Bool) → length us ≤ length Γ → replay xs us ≡ marked (flags Γ a) us →
     ((vs : List Bool) → length vs ≤ length Γ → replay ys vs ≡ marked (flags Γ b) vs) → replay (xs ++ ys) us ≡ marked (flags Γ (union Γ a b)) us
-two_marks Γ a b xs ys us le h k =
-    replay-append xs ys us ∙ ap (replay ys) h ∙ k (marked (flags Γ a) us) (omega (arith, marked-length (flags Γ a) us)) ∙ sym (marked_twice Γ a b us)
+two_marks Γ a b xs ys us le h k = grind (arith, common_steps, replay-append, marked, flags, marked-length, marked_twice)
 
 -- a variable bound since is none of the earlier ones
 inside : (t : Ty) (Γ : List Ty) (m : Mask (t ∷ Γ)) (xs : List Use) (us : List Bool) → length us ≤ length Γ → replay xs us ≡ marked (flags (t ∷ Γ) m) us → replay xs us ≡ marked (flags Γ m.1) us
-inside t Γ m xs us le h = h ∙ marked_inner m.0 (flags Γ m.1) us (omega (arith, flags_length Γ m.1))
+inside t Γ m xs us le h = grind (arith, common_steps, marked_inner, flags, flags_length)
 
 mutual
   unfolding uses_in uses_of free frees

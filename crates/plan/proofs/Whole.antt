@@ -1,5 +1,5 @@
 -- A whole program.
-use Rattle.std.proofs.Common.{◌≡◌, ◌≤◌, List, [], ◌∷◌, ◌++◌, length, sym, refl, ap, ◌∙◌, subst, arith}
+use Rattle.std.proofs.Common.{◌≡◌, ◌≤◌, List, [], ◌∷◌, length, sym, refl, ap, ◌∙◌, subst, arith}
 use Rattle.std.proofs.lemmas.List.{append-nil}
 use Rattle.grammar.specs.Tree.{Tree, occs}
 use Rattle.grammar.specs.declared.occurrence.Occurrence.{Occurrence}
@@ -9,10 +9,8 @@ use Rattle.lang.specs.Weight.{weight}
 use Rattle.lang.specs.Phrases.{Program, a_program}
 use Rattle.lang.proofs.Accepting.{checking}
 use Rattle.lang.proofs.Derived.{derived}
-use Rattle.judging.specs.Acts.{Act}
 use Rattle.judging.specs.Judging.{State}
-use Rattle.judging.specs.Occurrences.{type_occs, typed_occs, program_occs, acts}
-use Rattle.judging.proofs.Resolves.{lengths}
+use Rattle.judging.specs.Occurrences.{program_occs}
 use Rattle.program.specs.Loading.{Holds}
 use Rattle.plan.specs.Boxes.{boxed}
 use Rattle.plan.specs.Filling.{Filling, filling, empty, run, typed}
@@ -27,12 +25,8 @@ use Rattle.plan.proofs.Turns.{typed-is}
 -- what all its occurrences leave
 filled : (c : Checked) → run (program_occs c) empty ≡ filling (block c.body 0 0) (forked c.body) (boxed c.parameter ∷ []) [] (uses_in c.body)
 filled c =
-    let p = c.parameter in let r = c.result in
-    let a = type_occs p in let b = acts Act.parameter 0 p in let d = type_occs r in let e = acts Act.result 0 r in
-    let s = filling [] [] (boxed p ∷ []) [] [] in
-    run-append (a ++ b ++ d ++ e) (typed_occs c.body) empty ∙
-    ap (run (typed_occs c.body)) (run-append (a ++ b ++ d) e empty ∙ run-append (a ++ b) d empty ∙ ap (run d) (run-append a b empty ∙ ap (run b) (types_run p empty)) ∙ types_run r s) ∙
-    runs c.body s 0 0 refl refl refl
+    let body = runs c.body (filling [] [] (boxed c.parameter ∷ []) [] []) 0 0 refl refl refl in
+    simp (run-append, types_run, body)
 
 pub plans : (c : Checked) (s : Filling) → s ≡ run (program_occs c) empty → Planned s.entries s.frees (c.parameter ∷ []) c.result c.body 0 (length s.entries)
 plans c s e =
@@ -50,9 +44,6 @@ module _ {os : List Occurrence} {s : State} {c : Checked} (h : Holds os s c) whe
   few_occurrences =
       let k = h.reads.spells in
       omega (arith, ap length h.reads.is, ap (λ t. length (occs t)) k.is, few k.cuts k.program)
-
-  pub as_many : length os ≤ length s.notes
-  as_many = let l = lengths h.typed in omega (arith, l.0, l.1)
 
   light_body : weight c.body ≤ 2000
   light_body =

@@ -1,73 +1,42 @@
 // Which values are boxed, by their types.
-ghost use Rattle.std.specs.Prelude.{◌≡◌, ◌<◌, length};
-ghost use Rattle.types.specs.Table.{types_in, type_of};
+ghost use Rattle.std.specs.Prelude.{◌≡◌};
+ghost use Rattle.types.specs.TypeRefs.{meant};
 ghost use Rattle.plan.specs.Boxes.{boxed as boxed_at};
 ghost use Rattle.plan.specs.Filling.{elements_boxed, inner_boxed, first_boxed, second_boxed};
 
-use types::node::TypeNode;
-use types::table::TypeTable;
+use types::type_ref::{Shape, TypeRef};
 
 // Whether values of a type are boxed.
-pub fn boxed(types: &TypeTable, code: usize) -> bool
-    requires { code < length (types_in types.now) }
-    ensures { result ≡ boxed_at (type_of types.now code) }
+pub fn boxed(t: TypeRef<'_>) -> bool
+    ensures { result ≡ boxed_at (meant t.entry) }
 {
-    match types.node(code) {
-        TypeNode::Int => false,
-        TypeNode::Bool => false,
-        TypeNode::Pair(_, _) => true,
-        TypeNode::List(_) => true,
-    }
+    matches!(t.shape(), Shape::Pair(_, _) | Shape::List(_))
 }
 
 // Whether the elements of lists of a type are.
-pub fn elements_boxed(types: &TypeTable, code: usize) -> bool
-    requires { code < length (types_in types.now) }
-    ensures { result ≡ elements_boxed (type_of types.now code) }
+pub fn elements_boxed(t: TypeRef<'_>) -> bool
+    ensures { result ≡ elements_boxed (meant t.entry) }
 {
-    match types.node(code) {
-        TypeNode::Int => false,
-        TypeNode::Bool => false,
-        TypeNode::Pair(_, _) => false,
-        TypeNode::List(element) => boxed(types, element),
-    }
+    t.element().is_some_and(boxed)
 }
 
 // Whether the elements of the lists that lists of a type hold are.
-pub fn inner_boxed(types: &TypeTable, code: usize) -> bool
-    requires { code < length (types_in types.now) }
-    ensures { result ≡ inner_boxed (type_of types.now code) }
+pub fn inner_boxed(t: TypeRef<'_>) -> bool
+    ensures { result ≡ inner_boxed (meant t.entry) }
 {
-    match types.node(code) {
-        TypeNode::Int => false,
-        TypeNode::Bool => false,
-        TypeNode::Pair(_, _) => false,
-        TypeNode::List(element) => elements_boxed(types, element),
-    }
+    t.element().is_some_and(elements_boxed)
 }
 
 // Whether the first halves of pairs of a type are.
-pub fn first_boxed(types: &TypeTable, code: usize) -> bool
-    requires { code < length (types_in types.now) }
-    ensures { result ≡ first_boxed (type_of types.now code) }
+pub fn first_boxed(t: TypeRef<'_>) -> bool
+    ensures { result ≡ first_boxed (meant t.entry) }
 {
-    match types.node(code) {
-        TypeNode::Int => false,
-        TypeNode::Bool => false,
-        TypeNode::Pair(left, _) => boxed(types, left),
-        TypeNode::List(_) => false,
-    }
+    t.halves().is_some_and(|(first, _)| boxed(first))
 }
 
 // Whether their second halves are.
-pub fn second_boxed(types: &TypeTable, code: usize) -> bool
-    requires { code < length (types_in types.now) }
-    ensures { result ≡ second_boxed (type_of types.now code) }
+pub fn second_boxed(t: TypeRef<'_>) -> bool
+    ensures { result ≡ second_boxed (meant t.entry) }
 {
-    match types.node(code) {
-        TypeNode::Int => false,
-        TypeNode::Bool => false,
-        TypeNode::Pair(_, right) => boxed(types, right),
-        TypeNode::List(_) => false,
-    }
+    t.halves().is_some_and(|(_, second)| boxed(second))
 }

@@ -2,7 +2,7 @@
 ghost use Rattle.std.specs.Prelude.{◌≡◌};
 ghost use Rattle.plan.specs.Filling.{or_else};
 
-#[derive(Clone, Copy)]
+#[derive(Clone, Copy, Default)]
 pub struct Fork {
     // the first entry behind it
     pub first: usize,
@@ -17,9 +17,6 @@ impl Fork {
     pub fn behind(self) -> usize
         ensures { result ≡ or_else self.second self.first }
     {
-        match self.second {
-            Some(entry) => entry,
-            None => self.first,
-        }
+        self.second.unwrap_or(self.first)
     }
 }

@@ -6,16 +6,16 @@ use super::table::Free;
 
 // Adds those that have their flag set, the innermost first. The scope has the innermost last.
 pub fn gather(frees: &mut Vec<Free>, flags: &[bool], scope: &[bool])
-    requires within { length flags.now ≤ length scope.now }
-    requires room { length (frees.old.items ++ gathered flags.now (reverse scope.now) 0) ≤ vec_capacity frees.old }
+    requires { length (frees.old.items ++ gathered flags.now (reverse scope.now) 0) ≤ vec_capacity frees.old }
     ensures items { frees.new.items ≡ frees.old.items ++ gathered flags.now (reverse scope.now) 0 }
     ensures capacity { vec_capacity frees.new ≡ vec_capacity frees.old }
 {
-    let n = scope.len();
-    for (index, used) in flags.iter().enumerate() {
+    for (index, (used, boxed)) in flags.iter().zip(scope.iter().rev()).enumerate() {
         if *used {
-            let boxed = scope[n - 1 - index];
-            frees.push_reserved(Free { index, boxed });
+            frees.push_reserved(Free {
+                index,
+                boxed: *boxed,
+            });
         }
     }
 }

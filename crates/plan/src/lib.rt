@@ -6,4 +6,3 @@ mod fork;
 mod gathering;
 pub mod plan;
 pub mod table;
-mod word;

@@ -3,7 +3,6 @@ mod filling;
 mod forks;
 mod joins;
 mod making;
-mod nodes;
 mod parts;
 mod steps;
 

@@ -1,23 +1,29 @@
 // The table that a run follows.
+ghost use Rattle.std.specs.Prelude.{◌≡◌};
+ghost use Rattle.plan.specs.Filling.{entry};
+
 use grammar::occurrence::{Infix, Operation};
 use monoid::int::Int;
 
-// A primitive. A flag says whether a part is boxed: a pair or a list, which one word names by its place.
+// A primitive. A flag says whether a value is boxed: a pair or a list, which one word names by its place.
 #[derive(Clone, Copy)]
 pub enum Task {
     Operate(Infix),
-    // whether the first half is boxed, and the second
-    MakePair(bool, bool),
-    First(bool),
-    Second(bool),
-    // how many elements, and whether they are boxed
-    Bracket(usize, bool),
+    // its halves
+    MakePair { first: bool, second: bool },
+    // the half
+    First { boxed: bool },
+    Second { boxed: bool },
+    // its elements
+    Bracket { count: usize, boxed: bool },
     Hollow,
-    Index(bool),
+    // the element
+    Index { boxed: bool },
     Length,
     Range,
     Flat,
-    Part(bool),
+    // the elements of the parts
+    Part { boxed: bool },
     Scan(Operation),
     Reduce(Operation),
 }
@@ -42,23 +48,39 @@ pub enum Mark {
     Group,
     Basic(Task),
     // the first occurrence of the second branch, and the free variables of both
-    IfFork(usize, Span),
-    // the join
-    IfElse(usize),
+    IfFork { second: usize, frees: Span },
+    IfElse { join: usize },
     // whether the result is boxed
-    IfJoin(bool),
-    // the join, and the free variables of filter and body
-    EachFork(usize, Span),
-    // the join
-    EachFilter(usize),
+    IfJoin { boxed: bool },
+    // the free variables of filter and body
+    EachFork { join: usize, frees: Span },
+    EachFilter { join: usize },
     // the first occurrence behind the fork, and whether results are boxed
-    EachJoin(usize, bool),
+    EachJoin { first: usize, boxed: bool },
 }
 
 #[derive(Clone, Copy)]
 pub struct Entry {
     pub mark: Mark,
     pub place: usize,
+}
+
+impl Task {
+    // The entry of the primitive at this place.
+    pub(super) fn at(self, place: usize) -> Entry
+        ensures { result ≡ entry (Mark.Basic self) place }
+    {
+        Mark::Basic(self).at(place)
+    }
+}
+
+impl Mark {
+    // The entry of an occurrence at this place.
+    pub(super) fn at(self, place: usize) -> Entry
+        ensures { result ≡ entry self place }
+    {
+        Entry { mark: self, place }
+    }
 }
 
 // A free variable: how many stand inside it where the fork is, and whether it is boxed.

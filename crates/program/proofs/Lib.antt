@@ -1,3 +1,2 @@
 pub mod Stages
-pub mod Texts
 pub mod One

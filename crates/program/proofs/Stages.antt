@@ -22,6 +22,7 @@ use Rattle.typing.specs.Faults.{of_check}
 use Rattle.typing.specs.Holding.{held, Judged}
 use Rattle.reader.specs.Reading.{Accepts as AcceptedText}
 use Rattle.reader.specs.declared.table.Table.{Table}
+use Rattle.program.specs.declared.memory.Memory.{Memory}
 use Rattle.program.specs.declared.memory.Rejected.{Rejected}
 use Rattle.program.specs.declared.read.ReadProgram.{ReadProgram}
 use Rattle.program.specs.declared.checked.CheckedProgram.{CheckedProgram}
@@ -78,10 +79,10 @@ pub sound : (os : List Occurrence) (st : State) → then (judge os begin) finish
 sound os st h r = ∥∥₁_map r λ r. let a = accepted r.spells r.is st h in (a.0, a.2)
 
 -- read, then checked
-pub loaded : (text : List ℕ) (p : ReadProgram) (r : Result CheckedProgram Rejected) → Tabled text p.table → CheckedAs (read_in p) r → LoadedAs text r
+pub loaded : (text : List ℕ) (p : ReadProgram) (r : Result CheckedProgram Rejected) → Tabled text p.memory.table → CheckedAs (read_in p) r → LoadedAs text r
 loaded text p (Ok q) s h =
     let a = h.1.each text s.tree s.spells s.is in
-    record { program = a.0; tree = s.tree; spells = s.spells; checks = a.1; done = h.0 ∙ s.is; is = subst (λ os. Holds os (held q.checker) a.0) (sym h.0) a.2 }
+    record { program = a.0; tree = s.tree; spells = s.spells; checks = a.1; done = h.0 ∙ s.is; is = subst (λ os. Holds os (held q.memory.checker) a.0) (sym h.0) a.2 }
 loaded text p (Err e) s h = inr (s.tree, s.spells, h.each text s.tree s.spells s.is)
 
 -- what the reader's and the checker's calls answer
@@ -98,13 +99,10 @@ judges t k os (Ok _) e r h =
 judges t k os (Err f) e r h = refuses (of_check f) (ap (λ l. then (judge l begin) finish) (sym e) ∙ h)
 
 -- in another's place
-pub swapped_sound : {t u : Table} {k l : Checker} → u ≡ t → l ≡ k → IsChecked t k → IsChecked u l
-swapped_sound {t} {u} {k} {l} e f h = subst (λ t. IsChecked t l) (sym e) (subst (λ k. IsChecked t k) (sym f) h)
-
-pub swapped_loaded : {text : List ℕ} (p : CheckedProgram) {t : Table} {k : Checker} → p.table ≡ t → p.checker ≡ k → Tabled text t → Accepts (occurrences_of t) (held k) → Loaded text p
-swapped_loaded {text} p {t} {k} e f s h =
+pub swapped : {text : List ℕ} (p : CheckedProgram) {m : Memory} {t : Table} → p.memory ≡ m → m.table ≡ t → Tabled text t → Accepts (occurrences_of t) (held m.checker) → Loaded text p
+swapped {text} p {m} {t} e f s h =
     let a = h.each text s.tree s.spells s.is in
-    record { program = a.0; tree = s.tree; spells = s.spells; checks = a.1; done = ap occurrences_of e ∙ s.is; is = subst (λ t. Holds (occurrences_of t) (held p.checker) a.0) (sym e) (subst (λ k. Holds (occurrences_of t) (held k) a.0) (sym f) a.2) }
+    record { program = a.0; tree = s.tree; spells = s.spells; checks = a.1; done = ap (λ m. occurrences_of m.table) e ∙ ap occurrences_of f ∙ s.is; is = subst (λ m. Holds (occurrences_of m.table) (held m.checker) a.0) (sym e) (subst (λ t. Holds (occurrences_of t) (held m.checker) a.0) (sym f) a.2) }
 
 pub refused_as : {text : List ℕ} {t : Table} (f : CheckFault) → Tabled text t → Refuses (occurrences_of t) (of_check f) → Comes text (refused (of_check f))
 refused_as {text} f s h = inr (s.tree, s.spells, h.each text s.tree s.spells s.is)

@@ -1,8 +1,6 @@
 -- What the calls on programs answer.
 use Rattle.std.specs.Prelude.{◌≡◌, ℕ, List, [], vec_items, Result, MatchResult}
 use Rattle.types.specs.declared.table.TypeTable.{TypeTable}
-use Rattle.types.specs.Types.{Ty}
-use Rattle.types.specs.Table as table
 use Rattle.grammar.specs.declared.occurrence.Occurrence.{Occurrence}
 use Rattle.grammar.specs.Tree.{Tree, occs}
 use Rattle.lang.specs.Outcome.{ok, refused}
@@ -23,24 +21,20 @@ use Rattle.program.specs.Loading.{Spells, Comes, Holds}
 use Rattle.program.specs.Stages.{Tabled, Accepts, Refuses}
 
 abbrev pub read_in : ReadProgram → List Occurrence
-read_in p = occurrences_of p.table
+read_in p = occurrences_of p.memory.table
 
 abbrev pub done_in : CheckedProgram → List Occurrence
-done_in p = occurrences_of p.table
+done_in p = occurrences_of p.memory.table
 
 abbrev pub types_of : CheckedProgram → TypeTable
-types_of p = p.checker.types
+types_of p = p.memory.checker.types
 
 abbrev pub noted : CheckedProgram → List Note
-noted p = vec_items p.checker.notes
-
--- the type of a code
-abbrev pub type_of : CheckedProgram → ℕ → Ty
-type_of p i = table.type_of (types_of p) i
+noted p = vec_items p.memory.checker.notes
 
 -- it is the program c
 abbrev pub Is : CheckedProgram → Checked → Type 0
-Is p c = Holds (done_in p) (held p.checker) c
+Is p c = Holds (done_in p) (held p.memory.checker) c
 
 -- nothing was read into it, and nothing judged
 abbrev pub IsFresh : Memory → Type 0
@@ -48,7 +42,7 @@ IsFresh m = (occurrences_of m.table ≡ []) × (held m.checker ≡ begin)
 
 -- the memory that the program took, as the program left it
 abbrev pub IsMemoryOf : CheckedProgram → Memory → Type 0
-IsMemoryOf p m = (m.table ≡ p.table) × (m.checker ≡ p.checker)
+IsMemoryOf p m = (m.table ≡ p.memory.table) × (m.checker ≡ p.memory.checker)
 
 -- the text is read, or the reader refuses it
 abbrev pub Unread : List ℕ → LoadFault → Type 0
@@ -56,11 +50,11 @@ Unread text (Read f) = Rejects text f
 Unread text (Check f) = ⊥
 
 abbrev pub ReadAs : List ℕ → Result ReadProgram Rejected → Type 0
-ReadAs text r = MatchResult r (λ p. Tabled text p.table) (λ e. Unread text e.fault)
+ReadAs text r = MatchResult r (λ p. Tabled text p.memory.table) (λ e. Unread text e.fault)
 
 -- the same occurrences are accepted, or refused
 abbrev pub CheckedAs : List Occurrence → Result CheckedProgram Rejected → Type 0
-CheckedAs os r = MatchResult r (λ p. (done_in p ≡ os) × Accepts os (held p.checker)) (λ e. Refuses os (of_load e.fault))
+CheckedAs os r = MatchResult r (λ p. (done_in p ≡ os) × Accepts os (held p.memory.checker)) (λ e. Refuses os (of_load e.fault))
 
 -- the text comes to the program
 pub record Loaded (text : List ℕ) (p : CheckedProgram) : Type 0 where

@@ -4,12 +4,10 @@ mod replacing;
 
 ghost use Rattle.program.specs.Stages.{IsChecked};
 
-use reader::table::Table;
-use typing::checker::Checker;
+use super::memory::Memory;
 
 #[derive(Drop)]
 pub struct CheckedProgram {
-    pub(super) table: Table,
-    pub(super) checker: Checker,
-    ghost sound: { IsChecked table checker },
+    pub(super) memory: Memory,
+    ghost sound: { IsChecked memory.table memory.checker },
 }

@@ -3,13 +3,11 @@ pub(crate) mod checking;
 
 ghost use Rattle.program.specs.Stages.{IsRead, Few};
 
-use reader::table::Table;
-use typing::checker::Checker;
+use super::memory::Memory;
 
 #[derive(Drop)]
 pub struct ReadProgram {
-    pub(super) table: Table,
-    pub(super) checker: Checker,
-    ghost read: { IsRead table },
-    ghost few: { Few table },
+    pub(super) memory: Memory,
+    ghost read: { IsRead memory.table },
+    ghost few: { Few memory.table },
 }

@@ -8,30 +8,19 @@
 use program::memory::Memory;
 use std::io::{BufRead, BufReader};
 
-mod hex;
 mod programs;
 mod value_texts;
-
-// A line about a program that is loaded, in the memory of the one before.
-fn try_program(rt: &HostRuntime, memory: Memory, kind: &str, rest: &str) -> anyhow::Result<Memory> {
-    if kind == "types" {
-        return programs::try_types(rt, memory, rest.as_bytes());
-    }
-    let text = hex::bytes(rt.alloc(), rest.as_bytes())?;
-    programs::try_load(rt, memory, text.as_slice())
-}
 
 fn main(rt: HostRuntime) -> anyhow::Result<()> {
     let mut memory = Memory::new(rt.alloc())?;
     for line in BufReader::new(rt.alloc(), rt.stdin())?.lines(rt.alloc()) {
         let line = line?;
-        let (kind, rest) = line.as_str().split_once(' ').unwrap_or(("", ""));
-        if kind == "load" || kind == "types" {
-            memory = try_program(&rt, memory, kind, rest)?;
-        } else if kind == "value" {
-            value_texts::try_line(&rt, rest)?;
-        } else if kind != "#" {
-            println!(rt; "bad line")?;
+        match line.as_str().split_once(' ') {
+            Some(("load", digits)) => memory = programs::try_load(&rt, memory, digits.as_bytes())?,
+            Some(("types", text)) => memory = programs::try_types(&rt, memory, text.as_bytes())?,
+            Some(("value", rest)) => value_texts::try_line(&rt, rest)?,
+            Some(("#", _)) => {}
+            _ => println!(rt; "bad line")?,
         }
     }
     Ok(())

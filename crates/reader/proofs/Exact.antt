@@ -1,5 +1,5 @@
 -- A text has one table at most, and none if it is refused.
-use Rattle.std.proofs.Common.{◌≡◌, ℕ, ◌<◌, List, length, sym, ap, ◌∙◌, subst, arith}
+use Rattle.std.proofs.Common.{◌≡◌, ℕ, List, sym, ap, ◌∙◌, subst}
 use Rattle.tokens.specs.declared.kind.Token.{Token}
 use Rattle.tokens.specs.Cutting.{Cuts}
 use Rattle.refusal.specs.declared.Refusal.{Refusal}
@@ -19,6 +19,3 @@ same-table {os' = os'} only r h = one_table r (subst (λ us. Reads us os') (only
 
 pub no_table : {text : List ℕ} {ts : List Token} {os : List Occurrence} {f : Refusal} → ((us : List Token) → Cuts text us → us ≡ ts) → Refuses ts f → Accepts text os → ⊥
 no_table only r h = refused_none r (subst Program (only h.tokens h.cuts) h.reads.program)
-
-pub too_long : {text : List ℕ} {os : List Occurrence} → 4096 < length text → Accepts text os → ⊥
-too_long lt h = omega (arith, h.short)

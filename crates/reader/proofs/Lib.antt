@@ -1,8 +1,7 @@
-pub mod Ranks
-pub mod Turns
 pub mod Ways
 pub mod Begun
 pub mod Phrases
+pub mod Ranks
 pub mod Repeats
 pub mod Whole
 pub mod Exact

@@ -1,22 +1,15 @@
--- A token that stands for no operation of a rank.
-use Rattle.std.proofs.Common.{◌≡◌}
+-- The ranks of signs, and a word that is of no fold.
+use Rattle.std.proofs.Common.{◌≡◌, ℕ}
 use Rattle.tokens.specs.declared.kind.Kind.{Kind}
-use Rattle.grammar.specs.declared.occurrence.Infix.{Infix}
 use Rattle.grammar.specs.Tree.{Fold, scan, reduce}
-use Rattle.grammar.specs.Grammar.{sign, folder, Compares, same, less, Joins, sums, products, adds, subtracts, multiplies, divides, remains}
+use Rattle.grammar.specs.Grammar.{folder}
+use Rattle.reader.specs.declared.operators.Rank.{Rank}
+use Rattle.reader.specs.declared.operators.Rank.TheVariants.{Sums, Products}
 
-pub no_comparison : {k : Kind} → (k ≡ Kind.Same → ⊥) → (k ≡ Kind.Less → ⊥) → (o : Infix) → Compares o → k ≡ sign o → ⊥
-no_comparison a b o same e = a e
-no_comparison a b o less e = b e
-
-pub no_sum : {k : Kind} → (k ≡ Kind.Plus → ⊥) → (k ≡ Kind.Minus → ⊥) → (o : Infix) → Joins sums o → k ≡ sign o → ⊥
-no_sum a b o adds e = a e
-no_sum a b o subtracts e = b e
-
-pub no_product : {k : Kind} → (k ≡ Kind.Times → ⊥) → (k ≡ Kind.Divide → ⊥) → (k ≡ Kind.Remainder → ⊥) → (o : Infix) → Joins products o → k ≡ sign o → ⊥
-no_product a b c o multiplies e = a e
-no_product a b c o divides e = b e
-no_product a b c o remains e = c e
+-- sums are of products
+abbrev pub level : Rank → ℕ
+level Sums = 2
+level Products = 0
 
 pub no_fold : {k : Kind} → (k ≡ Kind.Scan → ⊥) → (k ≡ Kind.Reduce → ⊥) → (f : Fold) → k ≡ folder f → ⊥
 no_fold a b scan e = a e

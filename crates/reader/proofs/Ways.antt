@@ -1,10 +1,10 @@
 -- The way of the reader from one state to a later one.
-use Rattle.std.proofs.Common.{◌≡◌, ℕ, ◌+◌, ◌-◌, ◌*◌, ◌<◌, false, List, [], ◌∷◌, ◌++◌, length, take, drop, IsErrAnd, vec_items, vec_len, vec_capacity, Result, sym, refl, ap, ◌∙◌, subst, append_assoc, append-nil, arith, length-append, MatchResult}
+use Rattle.std.proofs.Common.{◌≡◌, ℕ, ◌+◌, ◌-◌, ◌*◌, ◌<◌, false, List, [], ◌∷◌, ◌++◌, length, take, drop, IsErrAnd, vec_items, vec_len, Result, sym, refl, ap, ◌∙◌, subst, append_assoc, append-nil, arith, length-append, MatchResult}
 use Rattle.std.proofs.lemmas.List.{take_at, drop_at}
 use Rattle.std.proofs.lemmas.Result.{err_from_is_err_and}
 use Rattle.tokens.specs.declared.kind.Kind.{Kind}
 use Rattle.tokens.specs.declared.kind.Name.{Name}
-use Rattle.tokens.specs.Kinds.{kind_at, stopped}
+use Rattle.tokens.specs.Kinds.{kind_at}
 use Rattle.refusal.specs.declared.Refusal.{Refusal}
 use Rattle.grammar.specs.declared.occurrence.Operation.{Operation}
 use Rattle.grammar.specs.declared.occurrence.Occurrence.{Occurrence}
@@ -12,110 +12,95 @@ use Rattle.grammar.specs.Tree.{Tree, occs}
 use Rattle.grammar.specs.Grammar.{joint, Sort, types, expressions, operands, Derives}
 use Rattle.grammar.specs.Law.{Refuses, Wanted, one, a_name, a_joint, some, rest, Tail, items, Stands, Free, extends}
 use Rattle.grammar.proofs.Wanting.{passed, this_name, this_joint}
-use Rattle.grammar.proofs.Follow.{free_token, free_types, free_operands, shut_end}
+use Rattle.grammar.proofs.Follow.{free_token, free_types, free_operands}
 use Rattle.reader.specs.declared.parser.Parser.{Parser}
-use Rattle.reader.specs.Steps.{Ready, Took, Pushed, Turned, Adds, Read, Stops, Loops, Counts}
+use Rattle.reader.specs.Steps.{Kept, Moved, Took, Turned, Way, Into, Read, Stops, Loops, Counts}
 
--- from p, where γ was wanted, to q, where δ is: the occurrences xs were added, at least n fewer than tokens were passed
-pub record Way (γ δ : List Wanted) (n : ℕ) (xs : List Occurrence) (p q : Parser) : Type 0 where
-  pub adds : Adds n xs p q
-  pub stands : Stands p.tokens.now p.at γ → Stands p.tokens.now q.at δ
+-- the exit of a `?`
+pub fails : {T E : Type 0} (r : Result T E) (P : T → Type 0) (Q : E → Type 0) {f : E} → IsErrAnd r (λ y. y ≡ f) → Q f → MatchResult r P Q
+fails r P Q e h =
+    let y = err_from_is_err_and r e in
+    subst (λ x. MatchResult x P Q) (sym y.1) (subst Q (sym y.2) h)
 
-pub joined : {m n : ℕ} {xs ys : List Occurrence} {p q r : Parser} → Adds m xs p q → Adds n ys q r → Adds (m + n) (xs ++ ys) p r
-joined {m} {n} {xs} {ys} {p} {q} {r} a b = record {
-  tokens = b.tokens ∙ a.tokens;
-  lender = b.lender ∙ a.lender;
-  capacity = b.capacity ∙ a.capacity;
-  within = omega (arith, b.within, ap (λ t. length t.now) a.tokens);
-  grown = b.grown ∙ ap (λ l. l ++ ys) a.grown ∙ append_assoc _ xs ys;
-  few = omega (arith, a.few, b.few, length-append xs ys);
-}
+pub same_state : {p : Parser} → Kept p p
+same_state = record { tokens = refl; lender = refl; capacity = refl }
 
-pub start_at : {p : Parser} → (γ : List Wanted) → Ready p → Way γ γ 0 [] p p
-start_at γ r = record { adds = record { tokens = refl; lender = refl; capacity = refl; within = r.within; grown = sym (append-nil _); few = omega arith }; stands = λ s. s }
-
--- what is wanted, in other words
-pub turn_to : {γ δ ε : List Wanted} {n : ℕ} {xs : List Occurrence} {p q : Parser} → Way γ δ n xs p q → (Stands p.tokens.now q.at δ → Stands p.tokens.now q.at ε) → Way γ ε n xs p q
-turn_to w f = record { adds = w.adds; stands = λ s. f (w.stands s) }
-
-took_adds : {p q : Parser} {k : Kind} → Took p k q → Adds 1 [] p q
-took_adds {p} {q} t = record {
-  tokens = t.tokens;
-  lender = ap (λ x. x.ghost_name) t.table;
-  capacity = ap (λ v. vec_capacity v.now) t.table;
-  within = omega (arith, t.place, t.before);
-  grown = ap (λ v. vec_items v.now) t.table ∙ sym (append-nil _);
-  few = omega (arith, t.place);
-}
+pub kept_on : {p q r : Parser} → Kept p q → Kept q r → Kept p r
+kept_on a b = record { tokens = b.tokens ∙ a.tokens; lender = b.lender ∙ a.lender; capacity = b.capacity ∙ a.capacity }
 
 -- a token that stood at a place of the way
-pub kind_on : {n : ℕ} {xs : List Occurrence} {p q r : Parser} {k : Kind} → Adds n xs p q → Took q k r → kind_at p.tokens.now q.at ≡ k
+pub kind_on : {xs : List Occurrence} {p q r : Parser} {k : Kind} → Kept p q → Took k xs q r → kind_at p.tokens.now q.at ≡ k
 kind_on {q = q} {k = k} a t = subst (λ x. kind_at x.now q.at ≡ k) a.tokens t.was
 
 -- a phrase, seen from an earlier state
-pub phrase_on : {n : ℕ} {xs : List Occurrence} {s : Sort} {p q r : Parser} → Adds n xs p q → (h : Read s q r) → Derives p.tokens.now s q.at r.at h.tree
+pub phrase_on : {s : Sort} {p q r : Parser} → Kept p q → (h : Read s q r) → Derives p.tokens.now s q.at r.at h.tree
 phrase_on {s = s} {q = q} {r = r} a h = subst (λ x. Derives x.now s q.at r.at h.tree) a.tokens h.derives
 
-pub stands_to : {n : ℕ} {xs : List Occurrence} {p q : Parser} {i : ℕ} {γ : List Wanted} → Adds n xs p q → Stands p.tokens.now i γ → Stands q.tokens.now i γ
+stands_to : {p q : Parser} {i : ℕ} {γ : List Wanted} → Kept p q → Stands p.tokens.now i γ → Stands q.tokens.now i γ
 stands_to {i = i} {γ = γ} a s = subst (λ x. Stands x.now i γ) (sym a.tokens) s
 
-pub stands_from : {n : ℕ} {xs : List Occurrence} {p q : Parser} {i : ℕ} {γ : List Wanted} → Adds n xs p q → Stands q.tokens.now i γ → Stands p.tokens.now i γ
+stands_from : {p q : Parser} {i : ℕ} {γ : List Wanted} → Kept p q → Stands q.tokens.now i γ → Stands p.tokens.now i γ
 stands_from {i = i} {γ = γ} a s = subst (λ x. Stands x.now i γ) a.tokens s
 
-pub take_on : {γ δ : List Wanted} {n : ℕ} {xs : List Occurrence} {p q r : Parser} {k : Kind} → Way γ (one k ∷ δ) n xs p q → Took q k r → Way γ δ (n + 1) xs p r
-take_on {δ = δ} {n = n} {xs = xs} {p = p} {r = r} w t = record {
-  adds = subst (λ l. Adds (n + 1) l p r) (append-nil xs) (joined w.adds (took_adds t));
-  stands = λ s. subst (λ i. Stands p.tokens.now i δ) (sym t.place) (passed (kind_on w.adds t) (w.stands s));
+pub start : {f : Wanted} {us : List Wanted} {p : Parser} → Way f us us 0 [] p p
+start = record { kept = same_state; grown = sym (append-nil _); few = omega arith; stands = λ γ free s. s }
+
+-- what is wanted, in other words
+pub turn_to : {f : Wanted} {us vs ws : List Wanted} {n : ℕ} {xs : List Occurrence} {p q : Parser} → Way f us vs n xs p q → ((γ : List Wanted) → Free f γ → Stands p.tokens.now q.at (vs ++ γ) → Stands p.tokens.now q.at (ws ++ γ)) → Way f us ws n xs p q
+turn_to w g = record { kept = w.kept; grown = w.grown; few = w.few; stands = λ γ free s. g γ free (w.stands γ free s) }
+
+-- a step, and what is wanted after it
+step : {f : Wanted} {us vs ws : List Wanted} {n m : ℕ} {xs ys : List Occurrence} {p q r : Parser} → (k : ℕ) → Way f us vs n xs p q → Moved m ys q r → k + length ys ≡ n + m → ((γ : List Wanted) → Stands p.tokens.now q.at (vs ++ γ) → Stands p.tokens.now (q.at + m) (ws ++ γ)) → Way f us ws k (xs ++ ys) p r
+step {ws = ws} {m = m} {xs = xs} {ys = ys} {p = p} {q = q} k w a e g = record {
+  kept = kept_on w.kept a.kept;
+  grown = a.items ∙ ap (λ l. l ++ ys) w.grown ∙ append_assoc _ xs ys;
+  few = omega (arith, w.few, a.place, length-append xs ys);
+  stands = λ γ free s. subst (λ i. Stands p.tokens.now i (ws ++ γ)) (sym a.place) (g γ (w.stands γ free s));
 }
 
-pub name_on : {γ δ : List Wanted} {n : ℕ} {xs : List Occurrence} {p q r : Parser} {m : Name} → Way γ (a_name ∷ δ) n xs p q → Took q (Kind.Name m) r → Way γ δ (n + 1) xs p r
-name_on w t = take_on (turn_to w (this_name (kind_on w.adds t))) t
+pub take_on : {f : Wanted} {us ws : List Wanted} {n : ℕ} {xs : List Occurrence} {p q r : Parser} {k : Kind} → Way f us (one k ∷ ws) n xs p q → Took k [] q r → Way f us ws (n + 1) xs p r
+take_on {f} {us} {ws} {n} {xs} {p} {r = r} w t = subst (λ l. Way f us ws (n + 1) l p r) (append-nil xs) (step (n + 1) w t.moved (omega arith) (λ γ s. passed (kind_on w.kept t) s))
 
-pub joint_on : {γ δ : List Wanted} {n : ℕ} {xs : List Occurrence} {p q r : Parser} → (o : Operation) → Way γ (a_joint ∷ δ) n xs p q → Took q (joint o) r → Way γ δ (n + 1) xs p r
-joint_on o w t = take_on (turn_to w (this_joint o (kind_on w.adds t))) t
+pub mark_on : {f : Wanted} {us ws : List Wanted} {n : ℕ} {xs : List Occurrence} {p q r : Parser} {k : Kind} {x : Occurrence} → Way f us (one k ∷ ws) n xs p q → Took k (x ∷ []) q r → Way f us ws n (xs ++ x ∷ []) p r
+mark_on {n = n} w t = step n w t.moved (omega arith) (λ γ s. passed (kind_on w.kept t) s)
 
-pub read_on : {γ δ : List Wanted} {n : ℕ} {xs : List Occurrence} {p q r : Parser} {s : Sort} → Way γ (some s ∷ δ) n xs p q → Free (some s) δ → (h : Read s q r) → Way γ δ (n + 0) (xs ++ occs h.tree) p r
-read_on {δ = δ} w free h = record {
-  adds = joined w.adds h.adds;
-  stands = λ x. stands_from w.adds (h.stands δ (stands_to w.adds (w.stands x)) free);
+pub push_on : {f : Wanted} {us ws : List Wanted} {n : ℕ} {xs : List Occurrence} {p q r : Parser} {x : Occurrence} → Way f us ws n xs p q → Moved 0 (x ∷ []) q r → 0 < n → Way f us ws (n - 1) (xs ++ x ∷ []) p r
+push_on {ws = ws} {n = n} {p = p} {q = q} w a lt = step (n - 1) w a (omega arith) (λ γ s. subst (λ i. Stands p.tokens.now i (ws ++ γ)) (omega arith) s)
+
+pub name_on : {f : Wanted} {us ws : List Wanted} {n : ℕ} {xs : List Occurrence} {p q r : Parser} {m : Name} → Way f us (a_name ∷ ws) n xs p q → Took (Kind.Name m) [] q r → Way f us ws (n + 1) xs p r
+name_on w t = take_on (turn_to w (λ γ free. this_name (kind_on w.kept t))) t
+
+pub joint_on : {f : Wanted} {us ws : List Wanted} {n : ℕ} {xs : List Occurrence} {p q r : Parser} → (o : Operation) → Way f us (a_joint ∷ ws) n xs p q → Took (joint o) [] q r → Way f us ws (n + 1) xs p r
+joint_on o w t = take_on (turn_to w (λ γ free. this_joint o (kind_on w.kept t))) t
+
+-- a way, and then one over a part of what is wanted
+pub joined : {f g v : Wanted} {us vs ws : List Wanted} {n m : ℕ} {xs ys : List Occurrence} {p q r : Parser} → Way f us (v ∷ ws) n xs p q → ((γ : List Wanted) → Free f γ → Free g (ws ++ γ)) → Way g (v ∷ []) vs m ys q r → Way f us (vs ++ ws) (n + m) (xs ++ ys) p r
+joined {vs = vs} {ws = ws} {xs = xs} {ys = ys} {p = p} {r = r} w free a = record {
+  kept = kept_on w.kept a.kept;
+  grown = a.grown ∙ ap (λ l. l ++ ys) w.grown ∙ append_assoc _ xs ys;
+  few = omega (arith, w.few, a.few, length-append xs ys);
+  stands = λ γ h s. subst (λ l. Stands p.tokens.now r.at l) (sym (append_assoc vs ws γ)) (stands_from w.kept (a.stands (ws ++ γ) (free γ h) (stands_to w.kept (w.stands γ h s))));
 }
+
+pub read_on : {f : Wanted} {us ws : List Wanted} {n : ℕ} {xs : List Occurrence} {p q r : Parser} {s : Sort} → Way f us (some s ∷ ws) n xs p q → ((γ : List Wanted) → Free f γ → Free (some s) (ws ++ γ)) → (h : Read s q r) → Way f us ws (n + 0) (xs ++ occs h.tree) p r
+read_on w free h = joined w free h.way
 
 -- an expression, and then a token that ends it
-pub read_then : {γ δ : List Wanted} {n : ℕ} {xs : List Occurrence} {p q r : Parser} {k : Kind} → Way γ (some expressions ∷ one k ∷ δ) n xs p q → extends expressions k ≡ false → (h : Read expressions q r) → Way γ (one k ∷ δ) (n + 0) (xs ++ occs h.tree) p r
-read_then {δ = δ} {k = k} w e h = read_on w (free_token δ expressions k e) h
+pub read_then : {f : Wanted} {us ws : List Wanted} {n : ℕ} {xs : List Occurrence} {p q r : Parser} {k : Kind} → Way f us (some expressions ∷ one k ∷ ws) n xs p q → extends expressions k ≡ false → (h : Read expressions q r) → Way f us (one k ∷ ws) (n + 0) (xs ++ occs h.tree) p r
+read_then w e h = read_on w (λ γ free. free_token _ expressions _ e) h
 
 -- a type or an operand, whatever follows
-pub type_on : {γ δ : List Wanted} {n : ℕ} {xs : List Occurrence} {p q r : Parser} → Way γ (some types ∷ δ) n xs p q → (h : Read types q r) → Way γ δ (n + 0) (xs ++ occs h.tree) p r
-type_on {δ = δ} w h = read_on w (free_types δ) h
+pub type_on : {f : Wanted} {us ws : List Wanted} {n : ℕ} {xs : List Occurrence} {p q r : Parser} → Way f us (some types ∷ ws) n xs p q → (h : Read types q r) → Way f us ws (n + 0) (xs ++ occs h.tree) p r
+type_on w h = read_on w (λ γ free. free_types _) h
 
-pub operand_on : {γ δ : List Wanted} {n : ℕ} {xs : List Occurrence} {p q r : Parser} → Way γ (some operands ∷ δ) n xs p q → (h : Read operands q r) → Way γ δ (n + 0) (xs ++ occs h.tree) p r
-operand_on {δ = δ} w h = read_on w (free_operands δ) h
+pub operand_on : {f : Wanted} {us ws : List Wanted} {n : ℕ} {xs : List Occurrence} {p q r : Parser} → Way f us (some operands ∷ ws) n xs p q → (h : Read operands q r) → Way f us ws (n + 0) (xs ++ occs h.tree) p r
+operand_on w h = read_on w (λ γ free. free_operands _) h
 
-pub loop_on : {γ δ : List Wanted} {n : ℕ} {xs : List Occurrence} {p q r : Parser} {s : Sort} {t : Tail} → Way γ (rest t ∷ δ) n xs p q → Free (some s) δ → (h : Loops s t q r) → Way γ (rest t ∷ δ) (n + 0) (xs ++ h.added) p r
-loop_on {δ = δ} w free h = record {
-  adds = joined w.adds h.adds;
-  stands = λ x. stands_from w.adds (h.stands δ (stands_to w.adds (w.stands x)) free);
-}
+pub loop_on : {f : Wanted} {us ws : List Wanted} {n : ℕ} {xs : List Occurrence} {p q r : Parser} {s : Sort} {t : Tail} → Way f us (rest t ∷ ws) n xs p q → ((γ : List Wanted) → Free f γ → Free (some s) (ws ++ γ)) → (h : Loops s t q r) → Way f us (rest t ∷ ws) (n + 0) (xs ++ h.added) p r
+loop_on w free h = joined w free h.way
 
-pub count_on : {γ δ : List Wanted} {m k n : ℕ} {xs : List Occurrence} {p q r : Parser} → Way γ (rest items ∷ δ) n xs p q → (h : Counts m k q r) → Way γ (rest items ∷ δ) (n + 0) (xs ++ h.added) p r
-count_on {δ = δ} w h = record {
-  adds = joined w.adds h.adds;
-  stands = λ x. stands_from w.adds (h.stands δ (stands_to w.adds (w.stands x)));
-}
-
-pub push_on : {γ δ : List Wanted} {n : ℕ} {xs : List Occurrence} {p q r : Parser} {x : Occurrence} → Way γ δ n xs p q → Pushed q x r → 0 < n → Way γ δ (n - 1) (xs ++ x ∷ []) p r
-push_on {γ} {δ} {n} {xs} {p} {q} {r} {x} w b lt =
-    let a = w.adds in record {
-      adds = record {
-        tokens = b.tokens ∙ a.tokens;
-        lender = b.lender ∙ a.lender;
-        capacity = b.capacity ∙ a.capacity;
-        within = omega (arith, a.within, b.place);
-        grown = b.items ∙ ap (λ l. l ++ x ∷ []) a.grown ∙ append_assoc _ xs (x ∷ []);
-        few = omega (arith, a.few, b.place, length-append xs (x ∷ []));
-      };
-      stands = λ s. subst (λ i. Stands p.tokens.now i δ) (sym b.place) (w.stands s);
-    }
+pub count_on : {f : Wanted} {us ws : List Wanted} {n m k : ℕ} {xs : List Occurrence} {p q r : Parser} → Way f us (rest items ∷ ws) n xs p q → (h : Counts m k q r) → Way f us (rest items ∷ ws) (n + 0) (xs ++ h.added) p r
+count_on w h = joined w (λ γ free. tt) h.way
 
 rolled : (base xs ys : List Occurrence) (m k : ℕ) → length base ≡ m → length xs ≡ k → take m (base ++ (xs ++ ys)) ++ drop k (drop m (base ++ (xs ++ ys))) ++ take k (drop m (base ++ (xs ++ ys))) ≡ base ++ (ys ++ xs)
 rolled base xs ys m k e f =
@@ -126,91 +111,50 @@ rolled base xs ys m k e f =
     cc (append_assoc base ys xs)
 
 -- the first occurrences of the way go to its end
-pub turned_on : {γ δ : List Wanted} {n m k : ℕ} {p q r : Parser} → (xs ys : List Occurrence) → Way γ δ n (xs ++ ys) p q → Turned q m k r → m ≡ vec_len p.table.now → k ≡ length xs → Way γ δ n (ys ++ xs) p r
-turned_on {γ} {δ} {n} {m} {k} {p} {q} {r} xs ys w b e f =
-    let a = w.adds in
+pub turned_on : {f : Wanted} {us ws : List Wanted} {n m k : ℕ} {p q r : Parser} → (xs ys : List Occurrence) → Way f us ws n (xs ++ ys) p q → Turned m k q r → m ≡ vec_len p.table.now → k ≡ length xs → Way f us ws n (ys ++ xs) p r
+turned_on {ws = ws} {m = m} {k = k} {p = p} xs ys w b e l =
     let base = vec_items p.table.now in
     let same : length base ≡ m = omega (arith, p.table.now.ok.0, e) in record {
-      adds = record {
-        tokens = b.tokens ∙ a.tokens;
-        lender = b.lender ∙ a.lender;
-        capacity = b.capacity ∙ a.capacity;
-        within = omega (arith, a.within, b.place);
-        grown = b.items ∙ ap (λ l. take m l ++ drop k (drop m l) ++ take k (drop m l)) a.grown ∙ rolled base xs ys m k same (sym f);
-        few = omega (arith, a.few, b.place, length-append xs ys, length-append ys xs);
-      };
-      stands = λ s. subst (λ i. Stands p.tokens.now i δ) (sym b.place) (w.stands s);
+      kept = kept_on w.kept b.kept;
+      grown = b.items ∙ ap (λ l. take m l ++ drop k (drop m l) ++ take k (drop m l)) w.grown ∙ rolled base xs ys m k same (sym l);
+      few = omega (arith, w.few, b.place, length-append xs ys, length-append ys xs);
+      stands = λ γ free s. subst (λ i. Stands p.tokens.now i (ws ++ γ)) (sym b.place) (w.stands γ free s);
     }
 
 -- a token that is not there changes nothing
-pub same_on : {γ δ : List Wanted} {n : ℕ} {xs : List Occurrence} {p q r : Parser} → Way γ δ n xs p q → r ≡ q → Way γ δ n xs p r
-same_on {γ} {δ} {n} {xs} {p} w e = subst (λ x. Way γ δ n xs p x) (sym e) w
+pub same_on : {f : Wanted} {us ws : List Wanted} {n : ℕ} {xs : List Occurrence} {p q r : Parser} → Way f us ws n xs p q → r ≡ q → Way f us ws n xs p r
+same_on {f} {us} {ws} {n} {xs} {p} w e = subst (λ x. Way f us ws n xs p x) (sym e) w
 
-pub long : {n : ℕ} {xs : List Occurrence} {p q : Parser} → Adds n xs p q → vec_len q.table.now ≡ vec_len p.table.now + length xs
-long {n} {xs} {p} {q} a = omega (arith, q.table.now.ok.0, p.table.now.ok.0, ap length a.grown, length-append (vec_items p.table.now) xs)
+-- the table has grown by the occurrences
+pub long : {f : Wanted} {us ws : List Wanted} {n : ℕ} {xs : List Occurrence} {p q : Parser} → Way f us ws n xs p q → vec_len q.table.now ≡ vec_len p.table.now + length xs
+long {xs = xs} {p = p} {q = q} w = omega (arith, q.table.now.ok.0, p.table.now.ok.0, ap length w.grown, length-append (vec_items p.table.now) xs)
 
-pub ready_on : {γ δ : List Wanted} {n : ℕ} {xs : List Occurrence} {p q : Parser} → Ready p → Way γ δ n xs p q → Ready q
-ready_on {γ} {δ} {n} {xs} {p} {q} r w =
-    let a = w.adds in
-    let same = ap (λ t. length t.now) a.tokens in
-    record { within = omega (arith, a.within, same); ends = subst (λ x. stopped x.now) (sym a.tokens) r.ends; room = omega (arith, r.room, a.few, a.capacity, long a, same) }
-
-pub room : {γ δ : List Wanted} {n : ℕ} {xs : List Occurrence} {p q : Parser} → Ready p → Way γ δ n xs p q → 0 < n → vec_len q.table.now < vec_capacity q.table.now
-room {γ} {δ} {n} {xs} {p} {q} r w lt = let a = w.adds in omega (arith, r.room, a.few, a.within, a.capacity, long a)
-
-pub room_turned : {m k : ℕ} {p q : Parser} → vec_len p.table.now < vec_capacity p.table.now → Turned p m k q → vec_len q.table.now < vec_capacity q.table.now
-room_turned lt t = omega (arith, lt, t.len, t.capacity)
-
--- the measure falls where a token was passed
-pub falls : {γ δ : List Wanted} {n : ℕ} {xs : List Occurrence} {p q : Parser} → (r s t : ℕ) → Way γ δ n xs p q → 0 < n → r < 8 → 8 * (length p.tokens.now - p.at) + s ≡ t → 8 * (length q.tokens.now - q.at) + r < t
-falls {p = p} {q = q} r s t w pos low h = let a = w.adds in omega (arith, a.few, a.within, ap (λ x. length x.now) a.tokens)
-
--- where w is wanted and refused, the program is
-pub stops_on : {γ δ : List Wanted} {n : ℕ} {xs : List Occurrence} {p q r : Parser} {w : Wanted} {f : Refusal} → Way γ (w ∷ δ) n xs p q → Free w δ → Stops w q r f → Stands p.tokens.now p.at γ → Refuses p.tokens.now f
-stops_on {δ = δ} {f = f} w free h s = subst (λ x. Refuses x.now f) w.adds.tokens (h.refuses δ (stands_to w.adds (w.stands s)) free)
-
--- an expression is wanted, and then a token that ends it
-pub stops_then : {γ δ : List Wanted} {n : ℕ} {xs : List Occurrence} {p q r : Parser} {k : Kind} {f : Refusal} → Way γ (some expressions ∷ one k ∷ δ) n xs p q → extends expressions k ≡ false → Stops (some expressions) q r f → Stands p.tokens.now p.at γ → Refuses p.tokens.now f
-stops_then {δ = δ} {k = k} w e h s = stops_on w (free_token δ expressions k e) h s
-
-pub stops_type : {γ δ : List Wanted} {n : ℕ} {xs : List Occurrence} {p q r : Parser} {f : Refusal} → Way γ (some types ∷ δ) n xs p q → Stops (some types) q r f → Stands p.tokens.now p.at γ → Refuses p.tokens.now f
-stops_type {δ = δ} w h s = stops_on w (free_types δ) h s
-
-pub stops_operand : {γ δ : List Wanted} {n : ℕ} {xs : List Occurrence} {p q r : Parser} {f : Refusal} → Way γ (some operands ∷ δ) n xs p q → Stops (some operands) q r f → Stands p.tokens.now p.at γ → Refuses p.tokens.now f
-stops_operand {δ = δ} w h s = stops_on w (free_operands δ) h s
+-- what is left to read, and the rank of the phrase at hand
+abbrev pub left : Parser → ℕ → ℕ
+left p r = 16 * (length p.tokens.now - p.at) + r
 
 -- a phrase stops where a part of it does
-pub halts : {γ δ : List Wanted} {n : ℕ} {xs : List Occurrence} {p q r : Parser} {v w : Wanted} {f : Refusal} → Way γ δ n xs p q → Stops w q r f → ((γ : List Wanted) → Stands p.tokens.now p.at (v ∷ γ) → Free v γ → Refuses p.tokens.now f) → Stops v p r f
-halts w h law = record { lender = h.lender ∙ w.adds.lender; capacity = h.capacity ∙ w.adds.capacity; refuses = law }
+pub stopped : {v w : Wanted} {ws : List Wanted} {n : ℕ} {xs : List Occurrence} {p q r : Parser} {f : Refusal} → Way v (v ∷ []) (w ∷ ws) n xs p q → ((γ : List Wanted) → Free v γ → Free w (ws ++ γ)) → Stops w q r f → Stops v p r f
+stopped {ws = ws} {f = f} a free h = record { kept = kept_on a.kept h.kept; refuses = λ γ g s. subst (λ x. Refuses x.now f) a.kept.tokens (h.refuses (ws ++ γ) (free γ g) (stands_to a.kept (a.stands γ g s))) }
 
--- a phrase with nothing after it but the end
-unfoldable pub last : List Wanted
-last = one Kind.End ∷ []
+-- a token was wanted
+pub stopped_at : {v : Wanted} {k : Kind} {ws : List Wanted} {n : ℕ} {xs : List Occurrence} {p q r : Parser} {f : Refusal} → Way v (v ∷ []) (one k ∷ ws) n xs p q → Stops (one k) q r f → Stops v p r f
+stopped_at a h = stopped a (λ γ free. tt) h
 
-pub ended : (s : Sort) → Free (some s) last
-unfolding last
-ended s = free_token [] s Kind.End (shut_end s)
+-- an expression, and then a token that ends it
+pub stopped_then : {v : Wanted} {k : Kind} {ws : List Wanted} {n : ℕ} {xs : List Occurrence} {p q r : Parser} {f : Refusal} → Way v (v ∷ []) (some expressions ∷ one k ∷ ws) n xs p q → extends expressions k ≡ false → Stops (some expressions) q r f → Stops v p r f
+stopped_then a shut h = stopped a (λ γ free. free_token _ expressions _ shut) h
 
-pub fewer : {n : ℕ} {xs ys : List Occurrence} {p q : Parser} → Adds n xs p q → xs ≡ ys → Adds 0 ys p q
-fewer {n} {xs} {ys} {p} {q} a e = subst (λ l. Adds 0 l p q) e (record { tokens = a.tokens; lender = a.lender; capacity = a.capacity; within = a.within; grown = a.grown; few = omega (arith, a.few) })
+-- a type or an operand, whatever follows
+pub stopped_type : {v : Wanted} {ws : List Wanted} {n : ℕ} {xs : List Occurrence} {p q r : Parser} {f : Refusal} → Way v (v ∷ []) (some types ∷ ws) n xs p q → Stops (some types) q r f → Stops v p r f
+stopped_type a h = stopped a (λ γ free. free_types _) h
+
+pub stopped_operand : {v : Wanted} {ws : List Wanted} {n : ℕ} {xs : List Occurrence} {p q r : Parser} {f : Refusal} → Way v (v ∷ []) (some operands ∷ ws) n xs p q → Stops (some operands) q r f → Stops v p r f
+stopped_operand a h = stopped a (λ γ free. free_operands _) h
+
+pub fewer : {f : Wanted} {us ws : List Wanted} {n : ℕ} {xs : List Occurrence} {p q : Parser} → Way f us ws n xs p q → Way f us ws 0 xs p q
+fewer w = record { kept = w.kept; grown = w.grown; few = omega (arith, w.few); stands = w.stands }
 
 -- the way was over a phrase
-pub reads : {n : ℕ} {xs : List Occurrence} {p q : Parser} {s : Sort} → (t : Tree) → Derives p.tokens.now s p.at q.at t → ((γ : List Wanted) → Free (some s) γ → Way (some s ∷ γ) γ n xs p q) → xs ≡ occs t → Read s p q
-reads {s = s} t d w e = record { tree = t; derives = d; adds = fewer (w last (ended s)).adds e; stands = λ γ x free. (w γ free).stands x }
-
--- the exit of a `?`
-pub fails : {T E : Type 0} (r : Result T E) (P : T → Type 0) (Q : E → Type 0) {f : E} → IsErrAnd r (λ y. y ≡ f) → Q f → MatchResult r P Q
-fails r P Q e h =
-    let y = err_from_is_err_and r e in
-    subst (λ x. MatchResult x P Q) (sym y.1) (subst Q (sym y.2) h)
-
--- the measure falls with the rank
-pub below : (r s n t : ℕ) → r < s → 8 * n + s ≡ t → 8 * n + r < t
-below r s n t lt e = omega arith
-
--- fewer tokens are left where one was passed
-pub shorter : {γ δ : List Wanted} {n : ℕ} {xs : List Occurrence} {p q : Parser} → Way γ δ n xs p q → 0 < n → length q.tokens.now - q.at < length p.tokens.now - p.at
-shorter {p = p} {q = q} w pos = let a = w.adds in omega (arith, a.few, a.within, ap (λ x. length x.now) a.tokens)
-
-pub shorter_pushed : {γ δ : List Wanted} {n : ℕ} {xs : List Occurrence} {p q r : Parser} {x : Occurrence} → Way γ δ n xs p q → 0 < n → Pushed q x r → length r.tokens.now - r.at < length p.tokens.now - p.at
-shorter_pushed {p = p} {q = q} {r = r} w pos u = omega (arith, shorter w pos, u.place, ap (λ x. length x.now) u.tokens)
+pub reads : {n : ℕ} {xs : List Occurrence} {p q : Parser} {s : Sort} → (t : Tree) → Derives p.tokens.now s p.at q.at t → Into s [] n xs p q → xs ≡ occs t → Read s p q
+reads {p = p} {q = q} {s = s} t d w e = record { tree = t; derives = d; way = subst (λ l. Into s [] 0 l p q) e (fewer w) }

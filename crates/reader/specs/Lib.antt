@@ -1,3 +1,4 @@
 pub mod Faults
+pub mod Ranks
 pub mod Steps
 pub mod Reading

@@ -1,18 +1,20 @@
 // Expressions, by descent.
-ghost use Rattle.std.specs.Prelude.{◌≡◌};
-ghost use Rattle.grammar.specs.Grammar.{word, expressions, tests, chains, sums, products, posts, atoms, operands};
-ghost use Rattle.reader.specs.Steps.{At, Passes, Ready};
+ghost use Rattle.std.specs.Prelude.{◌≡◌, MatchResult};
+ghost use Rattle.grammar.specs.Grammar.{word, folder, expressions, tests, chains, sums, linked, posts, atoms, operands};
+ghost use Rattle.grammar.specs.Law.{rest, filter};
+ghost use Rattle.reader.specs.Faults.{of_parse};
+ghost use Rattle.reader.specs.Ranks.{chain_of, fold_of};
+ghost use Rattle.reader.specs.Steps.{At, Passes, Filtered, Stops};
 
 use super::fault::ParseFault;
-use super::operators::{comparison, product_sign, sum_sign, unary};
+use super::operators::{Fold, Rank, comparison, unary};
 use super::parser::Parser;
 use grammar::occurrence::{Unary, What};
 use tokens::kind::Kind;
 
 impl Parser<'_> {
-    #[cycle(addend_apply_atom_bind_choice_comparand_each_expr_group_list_operand_part_post_reduce_scan_term_test_total)]
+    #[cycle(expressions)]
     pub fn expr(&mut self) -> Result<(), ParseFault>
-        requires { Ready self.old }
         ensures { Passes expressions result self.old self.new }
     {
         match self.peek() {
@@ -22,146 +24,119 @@ impl Parser<'_> {
         }
     }
 
-    #[cycle(addend_apply_atom_bind_choice_comparand_each_expr_group_list_operand_part_post_reduce_scan_term_test_total)]
-    pub fn bind(&mut self) -> Result<(), ParseFault>
-        requires { (Ready self.old) × (At self.old ≡ Kind.Let) }
+    #[cycle(expressions)]
+    fn bind(&mut self) -> Result<(), ParseFault>
+        requires { At self.old ≡ Kind.Let }
         ensures { Passes expressions result self.old self.new }
     {
         let place = self.pass();
         let name = self.name()?;
         self.expect(Kind::Equal)?;
         self.expr()?;
-        self.push(What::Bind(name), place);
-        self.expect(Kind::In)?;
+        self.mark(Kind::In, What::Bind(name), place)?;
         self.expr()?;
         self.push(What::LetEnd, place);
         Ok(())
     }
 
-    #[cycle(addend_apply_atom_bind_choice_comparand_each_expr_group_list_operand_part_post_reduce_scan_term_test_total)]
-    pub fn choice(&mut self) -> Result<(), ParseFault>
-        requires { (Ready self.old) × (At self.old ≡ Kind.If) }
+    #[cycle(expressions)]
+    fn choice(&mut self) -> Result<(), ParseFault>
+        requires { At self.old ≡ Kind.If }
         ensures { Passes expressions result self.old self.new }
     {
         let place = self.pass();
         self.expr()?;
-        self.expect(Kind::Then)?;
-        self.push(What::IfFork, place);
+        self.mark(Kind::Then, What::IfFork, place)?;
         self.expr()?;
-        self.expect(Kind::Else)?;
-        self.push(What::IfElse, place);
+        self.mark(Kind::Else, What::IfElse, place)?;
         self.expr()?;
         self.push(What::IfJoin, place);
         Ok(())
     }
 
-    #[cycle(addend_apply_atom_bind_choice_comparand_each_expr_group_list_operand_part_post_reduce_scan_term_test_total)]
-    pub fn test(&mut self) -> Result<(), ParseFault>
-        requires { Ready self.old }
+    #[cycle(expressions)]
+    fn test(&mut self) -> Result<(), ParseFault>
         ensures { Passes tests result self.old self.new }
     {
-        self.total()?;
-        match comparison(self.peek()) {
-            Some(sign) => {
-                let place = self.pass();
-                self.comparand()?;
-                self.push(What::Operate(sign), place);
-                Ok(())
-            }
-            None => Ok(()),
-        }
+        self.chain(Rank::Sums)?;
+        let Some(sign) = comparison(self.peek()) else {
+            return Ok(());
+        };
+        let place = self.pass();
+        self.comparand()?;
+        self.push(What::Operate(sign), place);
+        Ok(())
     }
 
     // The right side of a comparison, which is no comparison itself.
-    #[cycle(addend_apply_atom_bind_choice_comparand_each_expr_group_list_operand_part_post_reduce_scan_term_test_total)]
+    #[cycle(expressions)]
     fn comparand(&mut self) -> Result<(), ParseFault>
-        requires { Ready self.old }
         ensures { Passes (chains sums) result self.old self.new }
     {
-        Parser::total(self)
+        Parser::chain(self, Rank::Sums)
     }
 
-    #[cycle(addend_apply_atom_bind_choice_comparand_each_expr_group_list_operand_part_post_reduce_scan_term_test_total)]
-    pub fn total(&mut self) -> Result<(), ParseFault>
-        requires { Ready self.old }
-        ensures { Passes (chains sums) result self.old self.new }
+    #[cycle(expressions)]
+    fn chain(&mut self, rank: Rank) -> Result<(), ParseFault>
+        ensures { Passes (chains (chain_of rank)) result self.old self.new }
     {
-        self.term()?;
-        while let Some(sign) = sum_sign(self.peek()) {
+        self.link(rank)?;
+        while let Some(sign) = rank.sign(self.peek()) {
             let place = self.pass();
-            self.addend()?;
+            self.right(rank)?;
             self.push(What::Operate(sign), place);
         }
         Ok(())
     }
 
-    // The right side of a sum's sign: signs group to the left.
-    #[cycle(addend_apply_atom_bind_choice_comparand_each_expr_group_list_operand_part_post_reduce_scan_term_test_total)]
-    fn addend(&mut self) -> Result<(), ParseFault>
-        requires { Ready self.old }
-        ensures { Passes (chains products) result self.old self.new }
+    // What signs of a rank join.
+    #[cycle(expressions)]
+    fn link(&mut self, rank: Rank) -> Result<(), ParseFault>
+        ensures { Passes (linked (chain_of rank)) result self.old self.new }
     {
-        Parser::term(self)
-    }
-
-    #[cycle(addend_apply_atom_bind_choice_comparand_each_expr_group_list_operand_part_post_reduce_scan_term_test_total)]
-    pub fn term(&mut self) -> Result<(), ParseFault>
-        requires { Ready self.old }
-        ensures { Passes (chains products) result self.old self.new }
-    {
-        self.post()?;
-        while let Some(sign) = product_sign(self.peek()) {
-            let place = self.pass();
-            self.post()?;
-            self.push(What::Operate(sign), place);
+        match rank {
+            Rank::Sums => self.chain(Rank::Products),
+            Rank::Products => self.post(),
         }
-        Ok(())
     }
 
-    #[cycle(addend_apply_atom_bind_choice_comparand_each_expr_group_list_operand_part_post_reduce_scan_term_test_total)]
-    pub fn post(&mut self) -> Result<(), ParseFault>
-        requires { Ready self.old }
+    // The right side of a sign: signs group to the left.
+    #[cycle(expressions)]
+    fn right(&mut self, of: Rank) -> Result<(), ParseFault>
+        ensures { Passes (linked (chain_of of)) result self.old self.new }
+    {
+        self.link(of)
+    }
+
+    #[cycle(expressions)]
+    fn post(&mut self) -> Result<(), ParseFault>
         ensures { Passes posts result self.old self.new }
     {
         self.atom()?;
-        while self.next_is(Kind::SquareOpen) {
+        while self.peek() == Kind::SquareOpen {
             let place = self.pass();
             self.expr()?;
-            self.expect(Kind::SquareClose)?;
-            self.push(What::Index, place);
+            self.mark(Kind::SquareClose, What::Index, place)?;
         }
         Ok(())
     }
 
-    #[cycle(addend_apply_atom_bind_choice_comparand_each_expr_group_list_operand_part_post_reduce_scan_term_test_total)]
-    pub fn atom(&mut self) -> Result<(), ParseFault>
-        requires { Ready self.old }
+    #[cycle(expressions)]
+    fn atom(&mut self) -> Result<(), ParseFault>
         ensures { Passes atoms result self.old self.new }
     {
         match self.peek() {
-            Kind::Number(v) => {
-                self.leaf(What::Number(v));
-                Ok(())
-            }
-            Kind::True => {
-                self.leaf(What::True);
-                Ok(())
-            }
-            Kind::False => {
-                self.leaf(What::False);
-                Ok(())
-            }
-            Kind::Name(n) => {
-                self.leaf(What::Variable(n));
-                Ok(())
-            }
+            Kind::Number(v) => Ok(self.leaf(What::Number(v))),
+            Kind::True => Ok(self.leaf(What::True)),
+            Kind::False => Ok(self.leaf(What::False)),
+            Kind::Name(n) => Ok(self.leaf(What::Variable(n))),
             Kind::Open => self.group(),
             Kind::SquareOpen => self.list(),
             Kind::CurlyOpen => self.each(),
             Kind::Empty => self.empty(),
             Kind::Part => self.part(),
-            Kind::Scan => self.scan(),
-            Kind::Reduce => self.reduce(),
+            Kind::Scan => self.fold(Fold::Scan),
+            Kind::Reduce => self.fold(Fold::Reduce),
             other => match unary(other) {
                 Some(o) => self.apply(o),
                 None => Err(self.refusal()),
@@ -169,28 +144,24 @@ impl Parser<'_> {
         }
     }
 
-    #[cycle(addend_apply_atom_bind_choice_comparand_each_expr_group_list_operand_part_post_reduce_scan_term_test_total)]
-    pub fn group(&mut self) -> Result<(), ParseFault>
-        requires { (Ready self.old) × (At self.old ≡ Kind.Open) }
+    #[cycle(expressions)]
+    fn group(&mut self) -> Result<(), ParseFault>
+        requires { At self.old ≡ Kind.Open }
         ensures { Passes atoms result self.old self.new }
     {
         let place = self.pass();
         self.expr()?;
         if self.accept(Kind::Comma) {
             self.expr()?;
-            self.expect(Kind::Close)?;
-            self.push(What::Pair, place);
-            Ok(())
+            self.mark(Kind::Close, What::Pair, place)
         } else {
-            self.expect(Kind::Close)?;
-            self.push(What::Group, place);
-            Ok(())
+            self.mark(Kind::Close, What::Group, place)
         }
     }
 
-    #[cycle(addend_apply_atom_bind_choice_comparand_each_expr_group_list_operand_part_post_reduce_scan_term_test_total)]
-    pub fn list(&mut self) -> Result<(), ParseFault>
-        requires { (Ready self.old) × (At self.old ≡ Kind.SquareOpen) }
+    #[cycle(expressions)]
+    fn list(&mut self) -> Result<(), ParseFault>
+        requires { At self.old ≡ Kind.SquareOpen }
         ensures { Passes atoms result self.old self.new }
     {
         let place = self.pass();
@@ -200,44 +171,45 @@ impl Parser<'_> {
             self.expr()?;
             n += 1;
         }
-        self.expect(Kind::SquareClose)?;
-        self.push(What::List(n), place);
-        Ok(())
+        self.mark(Kind::SquareClose, What::List(n), place)
     }
 
     // The body stands before the list in the text, and behind it in the table.
-    #[cycle(addend_apply_atom_bind_choice_comparand_each_expr_group_list_operand_part_post_reduce_scan_term_test_total)]
-    pub fn each(&mut self) -> Result<(), ParseFault>
-        requires { (Ready self.old) × (At self.old ≡ Kind.CurlyOpen) }
+    #[cycle(expressions)]
+    fn each(&mut self) -> Result<(), ParseFault>
+        requires { At self.old ≡ Kind.CurlyOpen }
         ensures { Passes atoms result self.old self.new }
     {
         let place = self.pass();
-        let start = self.table.len();
+        let start = self.added();
         self.expr()?;
-        let n = self.table.len() - start;
+        let n = self.added() - start;
         self.expect(Kind::Colon)?;
         let name = self.name()?;
         self.expect(Kind::In)?;
         self.expr()?;
         self.push(What::EachFork(name), place);
-        if self.accept(Kind::Bar) {
-            self.expr()?;
-            self.expect(Kind::CurlyClose)?;
-            self.push(What::EachFilter, place);
-            self.turn(start, n);
-            self.push(What::EachJoin, place);
-            Ok(())
-        } else {
-            self.expect(Kind::CurlyClose)?;
-            self.turn(start, n);
-            self.push(What::EachJoin, place);
-            Ok(())
-        }
+        self.filter(place)?;
+        self.turn(start, n);
+        self.mark(Kind::CurlyClose, What::EachJoin, place)
     }
 
-    #[cycle(addend_apply_atom_bind_choice_comparand_each_expr_group_list_operand_part_post_reduce_scan_term_test_total)]
-    pub fn part(&mut self) -> Result<(), ParseFault>
-        requires { (Ready self.old) × (At self.old ≡ Kind.Part) }
+    // The filter of the comprehension at a place, if it has one.
+    #[cycle(expressions)]
+    fn filter(&mut self, place: usize) -> Result<(), ParseFault>
+        ensures { MatchResult result (λ _. Filtered place self.old self.new) (λ f. Stops (rest filter) self.old self.new (of_parse f)) }
+    {
+        if !self.accept(Kind::Bar) {
+            return Ok(());
+        }
+        self.expr()?;
+        self.push(What::EachFilter, place);
+        Ok(())
+    }
+
+    #[cycle(expressions)]
+    fn part(&mut self) -> Result<(), ParseFault>
+        requires { At self.old ≡ Kind.Part }
         ensures { Passes atoms result self.old self.new }
     {
         let place = self.pass();
@@ -245,14 +217,12 @@ impl Parser<'_> {
         self.expr()?;
         self.expect(Kind::Comma)?;
         self.expr()?;
-        self.expect(Kind::Close)?;
-        self.push(What::Part, place);
-        Ok(())
+        self.mark(Kind::Close, What::Part, place)
     }
 
-    #[cycle(addend_apply_atom_bind_choice_comparand_each_expr_group_list_operand_part_post_reduce_scan_term_test_total)]
-    pub fn apply(&mut self, o: Unary) -> Result<(), ParseFault>
-        requires { (Ready self.old) × (At self.old ≡ word o) }
+    #[cycle(expressions)]
+    fn apply(&mut self, o: Unary) -> Result<(), ParseFault>
+        requires { At self.old ≡ word o }
         ensures { Passes atoms result self.old self.new }
     {
         let place = self.pass();
@@ -261,39 +231,25 @@ impl Parser<'_> {
         Ok(())
     }
 
-    #[cycle(addend_apply_atom_bind_choice_comparand_each_expr_group_list_operand_part_post_reduce_scan_term_test_total)]
-    pub fn scan(&mut self) -> Result<(), ParseFault>
-        requires { (Ready self.old) × (At self.old ≡ Kind.Scan) }
+    #[cycle(expressions)]
+    fn fold(&mut self, fold: Fold) -> Result<(), ParseFault>
+        requires { At self.old ≡ folder (fold_of fold) }
         ensures { Passes atoms result self.old self.new }
     {
         let place = self.pass();
         let o = self.operation()?;
         self.operand()?;
-        self.push(What::Scan(o), place);
-        Ok(())
-    }
-
-    #[cycle(addend_apply_atom_bind_choice_comparand_each_expr_group_list_operand_part_post_reduce_scan_term_test_total)]
-    pub fn reduce(&mut self) -> Result<(), ParseFault>
-        requires { (Ready self.old) × (At self.old ≡ Kind.Reduce) }
-        ensures { Passes atoms result self.old self.new }
-    {
-        let place = self.pass();
-        let o = self.operation()?;
-        self.operand()?;
-        self.push(What::Reduce(o), place);
+        self.push(fold.what(o), place);
         Ok(())
     }
 
     // An expression in parentheses, behind a word.
-    #[cycle(addend_apply_atom_bind_choice_comparand_each_expr_group_list_operand_part_post_reduce_scan_term_test_total)]
-    pub fn operand(&mut self) -> Result<(), ParseFault>
-        requires { Ready self.old }
+    #[cycle(expressions)]
+    fn operand(&mut self) -> Result<(), ParseFault>
         ensures { Passes operands result self.old self.new }
     {
         self.expect(Kind::Open)?;
         self.expr()?;
-        self.expect(Kind::Close)?;
-        Ok(())
+        self.expect(Kind::Close)
     }
 }

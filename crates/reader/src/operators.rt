@@ -1,9 +1,34 @@
 // The operations that tokens stand for.
-ghost use Rattle.std.specs.Prelude.{◌≡◌, MatchOption, ◌≢◌};
-ghost use Rattle.grammar.specs.Grammar.{sign, word, joint, Compares, Joins, sums, products};
+ghost use Rattle.std.specs.Prelude.{MatchOption, ◌≡◌, ◌≢◌};
+ghost use Rattle.grammar.specs.Tree.{folding};
+ghost use Rattle.grammar.specs.Grammar.{sign, word, joint, Compares, Joins};
+ghost use Rattle.reader.specs.Ranks.{chain_of, fold_of};
 
-use grammar::occurrence::{Infix, Operation, Unary};
+use grammar::occurrence::{Infix, Operation, Unary, What};
 use tokens::kind::Kind;
+
+// The signs of a sum and of a product, which group to the left.
+#[derive(Clone, Copy)]
+pub enum Rank {
+    Sums,
+    Products,
+}
+
+impl Rank {
+    // The sign of this rank that a token is.
+    pub fn sign(self, k: Kind) -> Option<Infix>
+        ensures { MatchOption result ((o : Infix) → Joins (chain_of self) o → k ≢ sign o) (λ o. Joins (chain_of self) o × (k ≡ sign o)) }
+    {
+        match (self, k) {
+            (Rank::Sums, Kind::Plus) => Some(Infix::Add),
+            (Rank::Sums, Kind::Minus) => Some(Infix::Subtract),
+            (Rank::Products, Kind::Times) => Some(Infix::Multiply),
+            (Rank::Products, Kind::Divide) => Some(Infix::Divide),
+            (Rank::Products, Kind::Remainder) => Some(Infix::Remainder),
+            _ => None,
+        }
+    }
+}
 
 pub fn comparison(k: Kind) -> Option<Infix>
     ensures { MatchOption result ((o : Infix) → Compares o → k ≢ sign o) (λ o. Compares o × (k ≡ sign o)) }
@@ -11,27 +36,6 @@ pub fn comparison(k: Kind) -> Option<Infix>
     match k {
         Kind::Same => Some(Infix::Same),
         Kind::Less => Some(Infix::Less),
-        _ => None,
-    }
-}
-
-pub fn sum_sign(k: Kind) -> Option<Infix>
-    ensures { MatchOption result ((o : Infix) → Joins sums o → k ≢ sign o) (λ o. Joins sums o × (k ≡ sign o)) }
-{
-    match k {
-        Kind::Plus => Some(Infix::Add),
-        Kind::Minus => Some(Infix::Subtract),
-        _ => None,
-    }
-}
-
-pub fn product_sign(k: Kind) -> Option<Infix>
-    ensures { MatchOption result ((o : Infix) → Joins products o → k ≢ sign o) (λ o. Joins products o × (k ≡ sign o)) }
-{
-    match k {
-        Kind::Times => Some(Infix::Multiply),
-        Kind::Divide => Some(Infix::Divide),
-        Kind::Remainder => Some(Infix::Remainder),
         _ => None,
     }
 }
@@ -59,5 +63,23 @@ pub fn operation(k: Kind) -> Option<Operation>
         Kind::Lin => Some(Operation::Lin),
         Kind::House => Some(Operation::House),
         _ => None,
+    }
+}
+
+// What an operation of joining is used for.
+#[derive(Clone, Copy)]
+pub enum Fold {
+    Scan,
+    Reduce,
+}
+
+impl Fold {
+    pub fn what(self, o: Operation) -> What
+        ensures { result ≡ folding (fold_of self) o }
+    {
+        match self {
+            Fold::Scan => What::Scan(o),
+            Fold::Reduce => What::Reduce(o),
+        }
     }
 }

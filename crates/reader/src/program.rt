@@ -4,7 +4,7 @@ ghost use Rattle.tokens.specs.Kinds.{stopped, unstopped};
 ghost use Rattle.grammar.specs.Grammar.{programs};
 ghost use Rattle.grammar.specs.Law.{Refuses, Reads};
 ghost use Rattle.reader.specs.Faults.{of_parse};
-ghost use Rattle.reader.specs.Steps.{Passes, Ready};
+ghost use Rattle.reader.specs.Steps.{Passes};
 
 use super::fault::ParseFault;
 use super::parser::Parser;
@@ -13,7 +13,6 @@ use tokens::kind::{Kind, Token};
 
 impl Parser<'_> {
     pub fn program(&mut self) -> Result<(), ParseFault>
-        requires { Ready self.old }
         ensures { Passes programs result self.old self.new }
     {
         self.expect(Kind::Main)?;
@@ -22,15 +21,12 @@ impl Parser<'_> {
         self.expect(Kind::Colon)?;
         let place = self.place();
         self.type_phrase()?;
-        self.push(What::Parameter(name), place);
-        self.expect(Kind::Close)?;
+        self.mark(Kind::Close, What::Parameter(name), place)?;
         self.expect(Kind::Colon)?;
         let into = self.place();
         self.type_phrase()?;
-        self.push(What::Result, into);
-        self.expect(Kind::Equal)?;
-        self.expr()?;
-        Ok(())
+        self.mark(Kind::Equal, What::Result, into)?;
+        self.expr()
     }
 }
 

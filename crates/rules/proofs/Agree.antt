@@ -1,5 +1,6 @@
 -- The vector run agrees with the evaluation rules: by induction on the expression.
 use Rattle.std.proofs.Common.{◌≡◌, ℕ, ◌+◌, ◌≤◌, Bool, true, false, not, T, leb, List, [], ◌∷◌, map, length, sym, refl, ap, ◌∙◌, subst, add-zero, arith, leb→le}
+use Rattle.std.proofs.lemmas.Grind.{common_steps}
 use Rattle.monoid.specs.Segments.{concat, cut}
 use Rattle.refusal.specs.declared.Refusal.{Refusal}
 use Rattle.types.specs.Types.{Ty, list}
@@ -7,7 +8,7 @@ use Rattle.lang.specs.Values.{sum_by}
 use Rattle.lang.specs.Expr.{scalar, Expr, Args, con, group, var, bind, prim, ite, each, over, nil, more}
 use Rattle.rules.specs.Outcome.{refusal, Outcome, ok, fail, Work, ◌>>=◌, cost, all}
 use Rattle.rules.specs.Lists.{zip, pack, merge, counts, rows, every}
-use Rattle.rules.specs.Environment.{Env, look}
+use Rattle.rules.specs.Environment.{Env}
 use Rattle.rules.specs.Joining.{HouseJoin}
 use Rattle.rules.specs.Primitives.{apply, failure}
 use Rattle.rules.specs.Charges.{prim_charge, ite_fork, fork_each, over_fork, join_charge}
@@ -27,7 +28,7 @@ module _ (H : HouseJoin) (B : ℕ) where
     agree (con p k) ρs = sim_to B (sim_charge B p (length ρs) (map (λ ρ. scalar k) ρs)) (node_leaf (λ ρ. scalar k) ρs)
     agree (group p e) ρs = sim_to B (sim_bind B (agree e ρs) λ vs. sim_charge B p (length ρs) vs) (node_group (λ ρ. forget (eval H e ρ)) ρs
         ∙ simp forget_bind)
-    agree (var p x) ρs = sim_to B (sim_charge B p (length ρs) (map (λ ρ. look x ρ) ρs)) (node_leaf (λ ρ. look x ρ) ρs)
+    agree (var p x) ρs = grind (arith, common_steps, sim_to, sim_charge, node_leaf)
     agree (bind p e b) ρs =
         sim_to B (sim_bind B (agree e ρs) λ vs. sim_bind B (agree b (zip vs ρs)) λ us. sim_charge B p (length ρs) us)
         (node_bind (λ ρ. forget (eval H e ρ)) (λ q. forget (eval H b q)) ρs ∙ simp forget_bind)
@@ -67,16 +68,13 @@ module _ (H : HouseJoin) (B : ℕ) where
         (node_more (λ ρ. forget (eval H e ρ)) (λ ρ. forget (evals H es ρ)) ρs ∙ simp forget_bind)
 
 -- both ways
-forget_ok : {E A : Type 0} (x : Outcome E A) (a : A) → x ≡ ok a → forget x ≡ ok a
-forget_ok x a h = ap forget h
-
 pub ok_of_forget : {E A : Type 0} (x : Outcome E A) (a : A) → forget x ≡ ok a → x ≡ ok a
 ok_of_forget (ok b) a h = cc
 ok_of_forget (fail e) a h = cc
 
 pub within_ok : {A : Type 0} (B c : ℕ) (m : Work (Unit {0}) A) (a : A) (d : ℕ) → within B c m ≡ ok (a, d) →
     (w : ℕ) × (m ≡ ok (a, w)) × (d ≡ c + w) × (d ≤ B)
-within_ok B c (fail e) a d h = let z : ◌≡◌ {A = ℕ} 0 1 = cc in absurd (omega arith)
+within_ok B c (fail e) a d h = absurd cc
 within_ok B c (ok p) a d h = by (leb (c + p.1) B) (leb→le (c + p.1) B) h
   where
     by : (b : Bool) → (T b → c + p.1 ≤ B) → fits b p.0 (c + p.1) ≡ ok (a, d) →
@@ -86,7 +84,7 @@ within_ok B c (ok p) a d h = by (leb (c + p.1) B) (leb→le (c + p.1) B) h
         let e : d ≡ c + p.1 = sym (ap (λ r. r.1) q) in
         let k : c + p.1 ≤ B = le tt in
         (p.1, ap (λ x. ok (x, p.1)) (ap (λ r. r.0) q), e, omega arith)
-    by false le h = let z : ◌≡◌ {A = ℕ} 0 1 = cc in absurd (omega arith)
+    by false le h = absurd cc
 
 pub within_of : {A : Type 0} (B c : ℕ) (a : A) (d w : ℕ) → d ≡ c + w → d ≤ B → within B c (ok (a, w)) ≡ ok (a, d)
 within_of B c a d w e h = rw (← e) (fits_true B a d h)
@@ -101,8 +99,8 @@ each_of {R} {A} f (ρ ∷ ρs) vs w h = by (f ρ) refl (all f ρs) refl (each_of
     by : (x : Work Refusal A) → f ρ ≡ x → (y : Work Refusal (List A)) → all f ρs ≡ y →
         ((us : List A) (n : ℕ) → all f ρs ≡ ok (us, n) → Each f ρs us n) →
         (x >>= λ v. y >>= λ us. cost 0 (v ∷ us)) ≡ ok (vs, w) → Each f (ρ ∷ ρs) vs w
-    by (fail e) p y q rest h = let z : ◌≡◌ {A = ℕ} 0 1 = cc in absurd (omega arith)
-    by (ok x) p (fail e) q rest h = let z : ◌≡◌ {A = ℕ} 0 1 = cc in absurd (omega arith)
+    by (fail e) p y q rest h = absurd cc
+    by (ok x) p (fail e) q rest h = absurd cc
     by (ok x) p (ok y) q rest h =
         let k = ok_inj {E = Refusal} (x.0 ∷ y.0, x.1 + (y.1 + 0)) (vs, w) h in
         let k' : ◌≡◌ {A = List A × ℕ} (x.0 ∷ y.0, x.1 + y.1) (vs, w) = ap (λ n. (x.0 ∷ y.0, x.1 + n)) (sym (add-zero y.1)) ∙ k in

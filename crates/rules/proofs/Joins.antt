@@ -8,7 +8,6 @@ use Rattle.monoid.specs.IntsLemmas.{sum_laws, int_laws, max_laws, latest_laws, b
 use Rattle.monoid.specs.Semirings.{affine_laws}
 use Rattle.monoid.proofs.Running.{length-running, get_or-running}
 use Rattle.rules.specs.Joining.{HouseJoin, HouseLaws, joining}
-use Rattle.rules.proofs.Cases.{some_inj}
 use Rattle.rules.specs.Meaning.{JoinsLaw}
 
 or_unit : (x : Bool) → (x || false) ≡ x
@@ -31,7 +30,7 @@ joins_law = record {
   houses = (latest_laws, bit_or_laws);
   monoids = joining_laws;
   scans = λ H h o xs ys k.
-      let e = some_inj (running (joining H o).op (joining H o).unit xs) ys k in
+      let e : running (joining H o).op (joining H o).unit xs ≡ ys = cc in
       let laws = joining_laws H h o in (
         ap length (sym e) ∙ length-running laws (joining H o).unit xs,
         (λ i l. ap (λ zs. get_or zs i (joining H o).unit) (sym e) ∙ get_or-running laws xs i l),

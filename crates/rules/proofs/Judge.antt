@@ -1,12 +1,12 @@
 -- What a budget makes of a list of charged occurrences and what stands at its end, as a function; it does what is said of it.
 use Rattle.std.proofs.Common.{◌≡◌, ℕ, ◌+◌, ◌<◌, ◌≤◌, Bool, true, false, not, T, leb, ◌⊎◌, List, [], ◌∷◌, sym, refl, ap, ◌∙◌, inl, inr, arith, le→leb, leb→le}
+use Rattle.std.proofs.lemmas.Grind.{common_steps}
 use lib.Dec.{nleb→lt}
 use Rattle.refusal.specs.declared.Refusal.{Refusal}
 use Rattle.rules.specs.Outcome.{refusal, Outcome, ok, fail}
 use Rattle.rules.specs.Run.{Run, spent}
 use Rattle.rules.specs.Trace.{Charge, Trace, total, Over, here, further}
 use Rattle.rules.specs.Laws.{Judged}
-use Rattle.rules.proofs.Cases.{ok_inj, fail_inj, ok_fail}
 
 abbrev pub passes : {A : Type 0} → Bool → ℕ → Outcome Refusal A → Outcome Refusal A
 passes true p r = r
@@ -55,15 +55,12 @@ module _ (B : ℕ) {A : Type 0} where
   Refused c cs o f = ((p : ℕ) × Over B c cs p × (f ≡ refusal spent p)) ⊎ ((o ≡ fail f) × (c + total cs ≤ B))
 
   answered : (cs : List Charge) (o : Outcome Refusal A) (c : ℕ) → c ≤ B → (a : A) (d : ℕ) → judge B cs o c ≡ ok (a, d) → Answered c cs o a d
-  answered [] (ok b) c h a d e =
-      let q = ok_inj {E = Refusal} (b, c) (a, d) e in
-      let k : c ≡ d = ap (λ x. x.1) q in
-      (ap (λ x. ok x.0) q, omega arith, omega arith)
-  answered [] (fail r) c h a d e = ok_fail (a, d) r (sym e)
+  answered [] (ok b) c h a d e = grind (arith, common_steps)
+  answered [] (fail r) c h a d e = absurd cc
   answered (x ∷ xs) o c h a d e =
       by_pass B x.place (c + x.amount) (judge B xs o (c + x.amount)) (ok (a, d)) (sym (judge_cons x xs o c) ∙ e)
       (λ le k. let i = answered xs o (c + x.amount) le a d k in (i.0, omega (arith, i.1), i.2))
-      (λ lt k. ok_fail (a, d) (refusal spent x.place) (sym k))
+      (λ lt k. absurd cc)
 
   answers_so : (cs : List Charge) (o : Outcome Refusal A) (c : ℕ) (a : A) (d : ℕ) → Answered c cs o a d → judge B cs o c ≡ ok (a, d)
   answers_so [] o c a d h = rw h.0 (let k : c ≡ d = omega (arith, h.1) in ap (λ n. ok (a, n)) k)
@@ -72,15 +69,15 @@ module _ (B : ℕ) {A : Type 0} where
       ∙ answers_so xs o (c + x.amount) a d (h.0, omega (arith, h.1), h.2)
 
   refused : (cs : List Charge) (o : Outcome Refusal A) (c : ℕ) → c ≤ B → (f : Refusal) → judge B cs o c ≡ fail f → Refused c cs o f
-  refused [] (ok b) c h f e = ok_fail (b, c) f e
-  refused [] (fail r) c h f e = inr (ap fail (fail_inj r f e), omega arith)
+  refused [] (ok b) c h f e = absurd cc
+  refused [] (fail r) c h f e = inr (ap fail (cc), omega arith)
   refused (x ∷ xs) o c h f e =
       by_pass B x.place (c + x.amount) (judge B xs o (c + x.amount)) (fail f) (sym (judge_cons x xs o c) ∙ e)
       (λ le k. elim (refused xs o (c + x.amount) le f k) [
         | inl i ↦ inl (i.0, further le i.1, i.2)
         | inr i ↦ inr (i.0, omega (arith, i.1))
       ])
-      (λ lt k. inl (x.place, here lt, sym (fail_inj (refusal spent x.place) f k)))
+      (λ lt k. inl (x.place, here lt, sym (cc)))
 
   over_refuses : {c p : ℕ} {cs : List Charge} (o : Outcome Refusal A) → Over B c cs p → judge B cs o c ≡ fail (refusal spent p)
   over_refuses o (here {c} {x} {xs} lt) = judge_cons x xs o c ∙ pass_false B x.place (c + x.amount) (judge B xs o (c + x.amount)) lt

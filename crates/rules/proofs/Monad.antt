@@ -1,5 +1,6 @@
 -- The laws of values with work: a monad, and a commutative one where faults are forgotten.
-use Rattle.std.proofs.Common.{◌≡◌, ℕ, ◌+◌, List, [], ◌∷◌, map, sym, refl, ap, ◌∙◌, add-zero, add_assoc, add_comm, zero-add}
+use Rattle.std.proofs.Common.{◌≡◌, ℕ, ◌+◌, List, [], ◌∷◌, map, sym, refl, ap, add-zero, add_assoc, add_comm, zero-add, arith}
+use Rattle.std.proofs.lemmas.Grind.{common_steps}
 use mathlib.Core.Path.{fun_ext}
 use Rattle.lang.specs.Values.{sum_by}
 use Rattle.rules.specs.Outcome.{ok, fail, Work, plus, ◌>>=◌, cost, all}
@@ -33,7 +34,7 @@ module _ {E : Type 0} where
 
   -- work moves inwards
   pub plus_into : {A B : Type 0} (n : ℕ) (x : Work E A) (f : A → Work E B) → plus n (x >>= f) ≡ (x >>= λ a. plus n (f a))
-  plus_into n (ok p) f = plus-plus n p.1 (f p.0) ∙ ap (λ k. plus k (f p.0)) (add_comm n p.1) ∙ sym (plus-plus p.1 n (f p.0))
+  plus_into n (ok p) f = grind (arith, common_steps, plus-plus, add_comm)
   plus_into n (fail e) f = refl
 
   pub all_cong : {A B : Type 0} {f g : A → Work E B} → ((a : A) → f a ≡ g a) → (xs : List A) → all f xs ≡ all g xs
@@ -51,9 +52,7 @@ module _ {E : Type 0} where
 -- where faults are forgotten the order does not count
 pub swap : {A B C : Type 0} (x : Work (Unit {0}) A) (y : Work (Unit {0}) B) (f : A → B → Work (Unit {0}) C) →
     (x >>= λ a. y >>= λ b. f a b) ≡ (y >>= λ b. x >>= λ a. f a b)
-swap (ok p) (ok q) f =
-    plus-plus p.1 q.1 (f p.0 q.0) ∙ ap (λ n. plus n (f p.0 q.0)) (add_comm p.1 q.1)
-    ∙ sym (plus-plus q.1 p.1 (f p.0 q.0))
+swap (ok p) (ok q) f = grind (arith, common_steps, plus-plus, add_comm)
 swap (ok p) (fail e) f = refl
 swap (fail e) (ok q) f = refl
 swap (fail e) (fail e') f = refl

@@ -18,7 +18,6 @@ use Rattle.rules.specs.Trace.{Charge, Trace, and_then, ◌>>=◌, charge, test, 
 use Rattle.rules.specs.Traces.{direct_trace, direct_traces, batch_trace, batch_traces}
 use Rattle.rules.specs.Laws.{Judged}
 use Rattle.rules.specs.Numbers.{Failing, zero_divisor, no_place, no_parts, Refusing, over_budget, failing, NumbersLaw}
-use Rattle.rules.proofs.Cases.{fail_inj, ok_fail}
 use Rattle.rules.proofs.Traces.{batch_trace_law, direct_trace_law}
 use Rattle.rules.proofs.Works.{work_law}
 
@@ -62,19 +61,19 @@ pub record Named {A : Type 0} (t : Trace A) : Type 0 where
 named-then : {A C : Type 0} (cs : List Charge) (o : Outcome Refusal A) (g : A → Trace C) → Named (cs, o) → ((a : A) → Named (g a)) →
     Named (and_then cs o g)
 named-then cs (ok a) g s h = record { named = (h a).named }
-named-then cs (fail r) g s h = record { named = λ f k. s.named f (ap fail (fail_inj r f k)) }
+named-then cs (fail r) g s h = record { named = λ f k. s.named f (ap fail (cc)) }
 
 named_bind : {A C : Type 0} {t : Trace A} {g : A → Trace C} → Named t → ((a : A) → Named (g a)) → Named (t >>= g)
 named_bind {t = t} {g} s h = named-then t.0 t.1 g s h
 
 named_ok : {A : Type 0} (cs : List Charge) (a : A) → Named (cs, ok a)
-named_ok cs a = record { named = λ f k. ok_fail a f k }
+named_ok cs a = record { named = λ f k. absurd cc }
 
 named-charge : {A : Type 0} (p n : ℕ) (a : A) → Named (charge p n a)
 named-charge p n a = named_ok _ a
 
 named-test : {A : Type 0} (n p : ℕ) (o : Option A) → Failing n ⊎ Sure o → Named (test (refusal n p) o)
-named-test n p none (inl h) = record { named = λ f k. subst (λ r. Failing r.number) (fail_inj (refusal n p) f k) h }
+named-test n p none (inl h) = record { named = λ f k. let e : refusal n p ≡ f = cc in subst (λ (r : Refusal). Failing r.number) e h }
 named-test n p (some a) (inl h) = named_ok [] a
 named-test n p _ (inr (sure a)) = named_ok [] a
 

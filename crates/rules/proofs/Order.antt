@@ -1,5 +1,6 @@
 -- The occurrences of a vector run stand in the order of the expression's.
-use Rattle.std.proofs.Common.{◌≡◌, ℕ, not, List, [], ◌∷◌, ◌++◌, map, length, sym, refl, ap, ◌∙◌, subst, append_assoc, append-nil}
+use Rattle.std.proofs.Common.{◌≡◌, ℕ, not, List, [], ◌∷◌, ◌++◌, map, length, refl, ap, subst, append_assoc, append-nil, arith}
+use Rattle.std.proofs.lemmas.Grind.{common_steps}
 use mathlib.Core.Option.{Option, none, some}
 use Rattle.refusal.specs.declared.Refusal.{Refusal}
 use Rattle.monoid.specs.Segments.{concat, cut}
@@ -15,7 +16,6 @@ use Rattle.rules.specs.Charges.{join_charge}
 use Rattle.rules.specs.Trace.{Charge, Trace, and_then, ◌>>=◌, give, charge, test}
 use Rattle.rules.specs.Traces.{batch_trace, batch_traces}
 use Rattle.rules.specs.Order.{places, operand_places, InOrder, OrderLaw}
-use Rattle.rules.proofs.Cases.{fail_inj, ok_fail}
 
 abbrev placed : List Charge → List ℕ
 placed cs = map (λ x. x.place) cs
@@ -27,38 +27,22 @@ placed_append (x ∷ xs) ys = ap (λ ps. x.place ∷ ps) (placed_append xs ys)
 order_then : {A C : Type 0} (cs : List Charge) (o : Outcome Refusal A) (g : A → Trace C) (ps qs : List ℕ) → InOrder (cs, o) ps →
     ((a : A) → InOrder (g a) qs) →
     InOrder (and_then cs o g) (ps ++ qs)
-order_then cs (ok a) g ps qs s h = record {
-  whole = λ c k. ap (λ x. x ++ qs) (s.whole a refl) ∙ ap (λ x. placed cs ++ x) ((h a).whole c k) ∙ sym (placed_append cs (g a).0);
-  broken = λ f k.
-      let i = (h a).broken f k in (
-        i.0,
-        ap (λ x. x ++ qs) (s.whole a refl) ∙ ap (λ x. placed cs ++ x) i.1
-            ∙ sym (append_assoc (placed cs) (placed (g a).0) (f.place ∷ i.0)) ∙ ap (λ x. x ++ (f.place ∷ i.0)) (sym (placed_append cs (g a).0)),
-      );
-}
-order_then cs (fail r) g ps qs s h = record {
-  whole = λ c k. ok_fail c r (sym k);
-  broken = λ f k.
-      let i = s.broken f (ap fail (fail_inj r f k)) in
-      (i.0 ++ qs, ap (λ x. x ++ qs) i.1 ∙ append_assoc (placed cs) (f.place ∷ i.0) qs);
-}
+order_then cs (ok a) g ps qs s h = grind (arith, common_steps, placed_append, append_assoc)
+order_then cs (fail r) g ps qs s h = grind (arith, common_steps, append_assoc)
 
 order_bind : {A C : Type 0} {t : Trace A} {g : A → Trace C} {ps qs : List ℕ} → InOrder t ps → ((a : A) → InOrder (g a) qs) →
     InOrder (t >>= g) (ps ++ qs)
 order_bind {t = t} {g} {ps} {qs} s h = order_then t.0 t.1 g ps qs s h
 
 order_charge : {A : Type 0} (p n : ℕ) (a : A) → InOrder (charge p n a) (p ∷ [])
-order_charge p n a = record { whole = λ b k. refl; broken = λ f k. ok_fail a f k }
+order_charge p n a = record { whole = λ b k. refl; broken = λ f k. absurd cc }
 
 order_give : {A : Type 0} (a : A) → InOrder (give a) []
-order_give a = record { whole = λ b k. refl; broken = λ f k. ok_fail a f k }
+order_give a = record { whole = λ b k. refl; broken = λ f k. absurd cc }
 
 -- a test and a charge at one place
 order_node : {A C : Type 0} (n p : ℕ) (o : Option A) (m : A → ℕ) (u : A → C) → InOrder (test (refusal n p) o >>= λ a. charge p (m a) (u a)) (p ∷ [])
-order_node n p none m u = record {
-  whole = λ b k. ok_fail b (refusal n p) (sym k);
-  broken = λ f k. ([], ap (λ r. r.place ∷ []) (fail_inj (refusal n p) f k));
-}
+order_node n p none m u = grind (arith, common_steps)
 order_node n p (some a) m u = order_charge p (m a) (u a)
 
 module _ (H : HouseJoin) where

@@ -11,8 +11,7 @@ use Rattle.monoid.specs.Segments.{concat, cut}
 use Rattle.monoid.proofs.Segments.{cut-concat}
 use Rattle.rules.specs.Arithmetic.{same_number, many}
 use Rattle.rules.specs.Lists.{all_of, given, below}
-use Rattle.rules.specs.Primitives.{ints_below, parted}
-use Rattle.rules.proofs.Cases.{some_inj, none_some}
+use Rattle.rules.specs.Primitives.{parted}
 use Rattle.rules.specs.Meaning.{ListsLaw}
 
 abbrev values : List Int → List ℤ
@@ -33,21 +32,21 @@ tail_same a b xs ys h = cc
 
 -- what is given, and only where the test is true
 given_is : {A : Type 0} (t : Bool) (a b : A) → given t a ≡ some b → (t ≡ true) × (a ≡ b)
-given_is true a b h = (refl, some_inj a b h)
-given_is false a b h = none_some b h
+given_is true a b h = (refl, cc)
+given_is false a b h = absurd cc
 
 both_true : (a b : Bool) → a && b ≡ true → (a ≡ true) × (b ≡ true)
 both_true true b h = (refl, h)
-both_true false b h = let z : ◌≡◌ {A = ℕ} 0 1 = cc in absurd (omega arith)
+both_true false b h = absurd cc
 
 natural : (z : ℤ) → non_neg z ≡ true → z ≡ pos (many z)
 natural (pos n) h = refl
-natural (negsuc n) h = let z : ◌≡◌ {A = ℕ} 0 1 = cc in absurd (omega arith)
+natural (negsuc n) h = absurd cc
 
 same-is : (a b : ℤ) → same_number a b ≡ true → a ≡ b
 same-is (pos a) (pos b) h = ap pos (grind arith)
-same-is (pos a) (negsuc b) h = let z : ◌≡◌ {A = ℕ} 0 1 = cc in absurd (omega arith)
-same-is (negsuc a) (pos b) h = let z : ◌≡◌ {A = ℕ} 0 1 = cc in absurd (omega arith)
+same-is (pos a) (negsuc b) h = absurd cc
+same-is (negsuc a) (pos b) h = absurd cc
 same-is (negsuc a) (negsuc b) h = ap negsuc (grind arith)
 
 is_same : (n : ℕ) → eqb n n ≡ true
@@ -65,8 +64,8 @@ all_natural (n ∷ c) h =
 
 naturals : (c : List Int) (ns : List ℕ) → values c ≡ map pos ns → (all_of (λ n. non_neg n.value) c ≡ true) × (lengths c ≡ ns)
 naturals [] [] h = (refl, refl)
-naturals [] (n ∷ ns) h = let z : ◌≡◌ {A = ℕ} 0 1 = cc in absurd (omega arith)
-naturals (m ∷ c) [] h = let z : ◌≡◌ {A = ℕ} 0 1 = cc in absurd (omega arith)
+naturals [] (n ∷ ns) h = absurd cc
+naturals (m ∷ c) [] h = absurd cc
 naturals (m ∷ c) (n ∷ ns) h =
     let first = head-same m.value (pos n) (values c) (map pos ns) h in
     let rest = naturals c ns (tail_same m.value (pos n) (values c) (map pos ns) h) in
@@ -75,8 +74,8 @@ naturals (m ∷ c) (n ∷ ns) h =
 exact : (c : List Int) (ns : List ℕ) → values c ≡ map pos ns → exact_sum c ≡ pos (total ns)
 unfolding total
 exact [] [] h = refl
-exact [] (n ∷ ns) h = let z : ◌≡◌ {A = ℕ} 0 1 = cc in absurd (omega arith)
-exact (m ∷ c) [] h = let z : ◌≡◌ {A = ℕ} 0 1 = cc in absurd (omega arith)
+exact [] (n ∷ ns) h = absurd cc
+exact (m ∷ c) [] h = absurd cc
 exact (m ∷ c) (n ∷ ns) h =
     ap₂ (λ a b. a +ℤ b) (head-same m.value (pos n) (values c) (map pos ns) h) (exact c ns (tail_same m.value (pos n) (values c) (map pos ns) h))
 
@@ -155,5 +154,5 @@ lists_law = record {
   parts = λ H a xs c yss. ((λ h. parts_of_parted xs c yss h), (λ h. of_parts xs c yss h.0 h.1));
   ranges = λ H n is h.
       let k = many n.value in
-      ap values (sym (some_inj (ints_below k) is h)) ∙ small_values k (below k) (many_small n.value n.ok) (below-under k);
+      ap values (sym (cc)) ∙ small_values k (below k) (many_small n.value n.ok) (below-under k);
 }

@@ -1,5 +1,6 @@
 -- What is charged at one place: the vector run's charges there are those of its evaluations together.
 use Rattle.std.proofs.Common.{◌≡◌, ℕ, ◌+◌, Bool, true, false, cond, not, eqb, List, [], ◌∷◌, ◌++◌, map, length, sym, refl, ap, ◌∙◌, subst, add-zero, arith}
+use Rattle.std.proofs.lemmas.Grind.{common_steps}
 use mathlib.Core.Path.{fun_ext}
 use mathlib.Core.Option.{Option, none, some}
 use Rattle.refusal.specs.declared.Refusal.{Refusal}
@@ -17,7 +18,7 @@ use Rattle.rules.specs.Trace as Trace
 use Rattle.rules.specs.Trace.{Charge, Trace, and_then, give, charge, test, each_trace, keep_trace, picked, total_at}
 use Rattle.rules.specs.Traces.{direct_trace, direct_traces, batch_trace, batch_traces}
 use Rattle.rules.specs.Laws.{PlacesLaw}
-use Rattle.rules.proofs.Cases.{ok_inj, ok_fail}
+use Rattle.rules.proofs.Cases.{ok_inj}
 use Rattle.rules.proofs.Monad.{all-cost}
 use Rattle.rules.proofs.Commute.{sum_ones, sum_zeros, all-charge_x, node_nil, node_more, node_let, node_op, node_ite, node_each, node_over}
 
@@ -97,10 +98,10 @@ module _ (p : ℕ) where
   shows_charge q n a = record { shows = seen_charge q n a }
 
   shows_sum : {A R : Type 0} (q : ℕ) (n : R → ℕ) (xs : List R) (a : A) → Shows (charge q (sum_by n xs) a) (cost (sum_by (λ x. picked p q (n x)) xs) a)
-  shows_sum q n xs a = shows_to (shows_charge q (sum_by n xs) a) (ap (λ k. cost k a) (picked-sum p q n xs))
+  shows_sum q n xs a = grind (arith, common_steps, shows_to, shows_charge, picked-sum)
 
   shows_ones : {A R : Type 0} (q : ℕ) (xs : List R) (a : A) → Shows (charge q (length xs) a) (cost (sum_by (λ x. picked p q 1) xs) a)
-  shows_ones q xs a = shows_to (shows_charge q (length xs) a) (ap (λ k. cost k a) (picked_ones p q xs))
+  shows_ones q xs a = grind (arith, common_steps, shows_to, shows_charge, picked_ones)
 
   shows_give : {A : Type 0} (a : A) → Shows (give a) (cost 0 a)
   shows_give a = record { shows = seen_give a }
@@ -178,8 +179,8 @@ all_seen {R} {A} p t (ρ ∷ ρs) vs n h = by (t ρ).0 (t ρ).1 (all (λ ρ. see
     by : (cs : List Charge) (o : Outcome Refusal A) (y : M (List A)) → all (λ ρ. seen p (t ρ).0 (t ρ).1) ρs ≡ y →
         ((us : List A) (m : ℕ) → all (λ ρ. seen p (t ρ).0 (t ρ).1) ρs ≡ ok (us, m) → m ≡ sum_by (λ ρ. total_at p (t ρ).0) ρs) →
         (seen p cs o >>= λ v. y >>= λ us. cost 0 (v ∷ us)) ≡ ok (vs, n) → n ≡ total_at p cs + sum_by (λ ρ. total_at p (t ρ).0) ρs
-    by cs (fail e) y q rest h = ok_fail (vs, n) tt (sym h)
-    by cs (ok a) (fail e) q rest h = ok_fail (vs, n) e (sym h)
+    by cs (fail e) y q rest h = absurd cc
+    by cs (ok a) (fail e) q rest h = absurd cc
     by cs (ok a) (ok y) q rest h =
         let k = ap (λ r. r.1) (ok_inj {E = Unit {0}} (a ∷ y.0, total_at p cs + (y.1 + 0)) (vs, n) h) in
         let m = rest y.0 y.1 q in

@@ -14,7 +14,7 @@ use Rattle.rules.specs.Eval.{eval, evals}
 use Rattle.rules.specs.Trace.{Charge, Trace, and_then, ◌>>=◌, give, charge, test, each_trace, keep_trace, total}
 use Rattle.rules.specs.Traces.{direct_trace, direct_traces}
 use Rattle.rules.specs.Laws.{Summed, WorkLaw, CountLaw}
-use Rattle.rules.proofs.Cases.{ok_inj, fail_inj, ok_fail}
+use Rattle.rules.proofs.Cases.{ok_inj}
 
 abbrev pub tally : {A : Type 0} → List Charge → Outcome Refusal A → Work Refusal A
 tally cs (ok a) = ok (a, total cs)
@@ -109,13 +109,13 @@ tally_summed : {A : Type 0} (cs : List Charge) (o : Outcome Refusal A) → Summe
 tally_summed {A} cs (ok b) = record {
   answers = λ a w. (
     (λ h. let q = ok_inj {E = Refusal} (b, total cs) (a, w) h in (ap (λ x. ok x.0) q, sym (ap (λ x. x.1) q))),
-    (λ h. let q : b ≡ a = ok_inj {E = Refusal} b a h.0 in ap (λ x. ok (x, total cs)) q ∙ ap (λ n. ok (a, n)) (sym h.1)),
+    (λ h. let q : b ≡ a = cc in ap (λ x. ok (x, total cs)) q ∙ ap (λ n. ok (a, n)) (sym h.1)),
   );
-  fails = λ f. ((λ h. ok_fail (b, total cs) f h), (λ h. ok_fail b f h));
+  fails = λ f. ((λ h. absurd cc), (λ h. absurd cc));
 }
 tally_summed cs (fail r) = record {
-  answers = λ a w. ((λ h. ok_fail (a, w) r (sym h)), (λ h. ok_fail a r (sym h.0)));
-  fails = λ f. ((λ h. ap fail (fail_inj r f h)), (λ h. ap fail (fail_inj r f h)));
+  answers = λ a w. ((λ h. absurd cc), (λ h. absurd cc));
+  fails = λ f. ((λ h. ap fail (cc)), (λ h. ap fail (cc)));
 }
 
 pub work_law : WorkLaw

@@ -1,8 +1,8 @@
 // What the infix signs do to ints: with the sums and products of `Int`, all that both kinds of run compute on ints.
-ghost use Rattle.std.specs.Prelude.{◌≡◌, false, not};
+ghost use Rattle.std.specs.Prelude.{◌≡◌, not};
 ghost use Rattle.grammar.specs.declared.occurrence.Infix.TheVariants.{Divide, Remainder};
 ghost use Rattle.monoid.specs.Ints.{is_zero};
-ghost use Rattle.rules.specs.Arithmetic.{int_difference, int_quotient, int_remainder, int_same, int_less, infix_of, told};
+ghost use Rattle.rules.specs.Arithmetic.{int_difference, int_same, int_less, infix_of, told};
 ghost use Rattle.rules.specs.Lists.{given};
 
 use monoid::int::Int;
@@ -18,7 +18,7 @@ pub fn quotient(a: Int, b: Int) -> Option<Int>
     ensures { result ≡ told (infix_of Divide a b) }
 {
     let by = divisor(b)?;
-    Some(truncated(a, by))
+    Some(Int::new(a.value.wrapping_div(by.value)))
 }
 
 // With the dividend's sign; there is none by 0.
@@ -26,38 +26,24 @@ pub fn remainder(a: Int, b: Int) -> Option<Int>
     ensures { result ≡ told (infix_of Remainder a b) }
 {
     let by = divisor(b)?;
-    Some(left_over(a, by))
+    Some(Int::new(a.value.wrapping_rem(by.value)))
 }
 
 pub fn same(a: Int, b: Int) -> bool
     ensures { result ≡ int_same a b }
 {
-    a.value == b.value
+    a == b
 }
 
 pub fn less(a: Int, b: Int) -> bool
     ensures { result ≡ int_less a b }
 {
-    a.value < b.value
+    a < b
 }
 
 // What one may divide by: anything but 0.
 fn divisor(b: Int) -> Option<Int>
     ensures { result ≡ told (given (not (is_zero b)) b) }
 {
-    if b.is_zero() { None } else { Some(b) }
-}
-
-fn truncated(a: Int, b: Int) -> Int
-    requires { is_zero b ≡ false }
-    ensures { result ≡ int_quotient a b }
-{
-    Int::new(a.value.wrapping_div(b.value))
-}
-
-fn left_over(a: Int, b: Int) -> Int
-    requires { is_zero b ≡ false }
-    ensures { result ≡ int_remainder a b }
-{
-    Int::new(a.value.wrapping_rem(b.value))
+    (!b.is_zero()).then_some(b)
 }

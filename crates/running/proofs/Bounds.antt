@@ -1,11 +1,12 @@
 -- The cells that each task writes are at most two for each unit that it is charged, whatever the words are.
 use Rattle.std.proofs.Common.{◌≡◌, ℕ, zero, suc, ◌+◌, ◌*◌, ◌^◌, ◌<◌, ◌≤◌, Bool, true, false, ◌&&◌, List, [], ◌∷◌, map, length, take, drop, pos, sym, refl, ap, ◌∙◌, arith, length-append}
+use Rattle.std.proofs.lemmas.Grind.{common_steps}
 use mathlib.Core.Option.{some}
 use lib.Signed.{non_neg}
 use Rattle.std.proofs.lemmas.List.{length-map}
 use Rattle.monoid.specs.declared.int.Int.{Int}
 use Rattle.monoid.specs.Ints.{exact_sum}
-use Rattle.monoid.specs.Segments.{concat, cut, running}
+use Rattle.monoid.specs.Segments.{concat, cut}
 use Rattle.monoid.proofs.Segments.{length_cut}
 use Rattle.lang.specs.Values.{sum_by}
 use Rattle.lang.specs.Layout.{flat_map}
@@ -13,8 +14,8 @@ use Rattle.rules.specs.Lists.{all_of, given}
 use Rattle.rules.specs.Arithmetic.{same_number, many}
 use Rattle.rules.specs.Primitives.{ints_below, parted}
 use Rattle.rules.specs.Joining.{Joining}
-use Rattle.running.specs.Cells.{place, size_less, size_at, long_at, elements_at, halves_at, pair_block, list_block, words_from, nested}
-use Rattle.running.specs.Machine.{flat_block, part_blocks, lin_pairs, scan_block, scan_blocks}
+use Rattle.running.specs.Cells.{place, size_less, size_at, long_at, elements_at, pair_block, list_block, words_from, nested}
+use Rattle.running.specs.Machine.{flat_block, part_blocks, scan_block, scan_blocks}
 use Rattle.running.specs.Words.{limit}
 use Rattle.running.proofs.Holding.{sum_long}
 use Rattle.running.proofs.Sums.{sum-concat, cut_whole, all-parted}
@@ -80,7 +81,7 @@ is-parted ws cs wss e = by (all_of (λ n. non_neg n.value) cs && same_number (ex
           long = sym (ap length is) ∙ length_cut ws (map (λ n. many n.value) cs) ∙ length-map cs (λ n. many n.value);
           whole = sym (ap concat is) ∙ cut_whole ws (map (λ n. many n.value) cs) (k refl);
         }
-    by false k q = let z : ◌≡◌ {A = ℕ} 0 1 = cc in absurd (omega arith)
+    by false k q = absurd cc
 
 -- the sizes of the parts come to that of the list
 pub parted-sizes : (f : Int → ℕ) (ws cs : List Int) (wss : List (List Int)) → parted ws cs ≡ some wss → sum_by (sum_by f) wss ≡ sum_by f ws
@@ -111,16 +112,4 @@ scan_paid J h w = omega (arith, running-length J.op J.unit (elements_at h w), el
 
 pub scan_pairs_paid : (h : List Int) (q : ℕ) (w : Int) →
     length (nested q (size_less h w) (scan_blocks h w)) ≤ 2 * (1 + size_at h true w + size_at h true w)
-scan_pairs_paid h q w =
-    let zs : List (Int × Int) = running lin_pairs.op lin_pairs.unit (map (halves_at h) (elements_at h w)) in
-    let bs : List (List Int) = scan_blocks h w in
-    omega (
-      arith,
-      length-append (concat bs) (list_block (size_less h w) (words_from q bs)),
-      words_long q bs,
-      pairs_length zs,
-      length-map zs (λ q. pair_block 1 q.0 q.1),
-      running-length lin_pairs.op lin_pairs.unit (map (halves_at h) (elements_at h w)),
-      length-map (elements_at h w) (halves_at h),
-      elements_few h w,
-    )
+scan_pairs_paid h q w = grind (arith, common_steps, length-append, words_long, pairs_length, length-map, running-length, elements_few)

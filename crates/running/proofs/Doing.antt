@@ -10,9 +10,8 @@ use Rattle.rules.specs.Joining.{HouseJoin}
 use Rattle.rules.specs.Primitives.{apply, failure}
 use Rattle.rules.specs.Charges.{prim_charge}
 use Rattle.plan.specs.Boxes.{task_of}
-use Rattle.running.specs.Machine.{st, Step, stop, pay, do_task}
+use Rattle.running.specs.Machine.{st, Step, stop, pay, do_task, refuse}
 use Rattle.running.specs.Words.{limit, Word}
-use Rattle.running.specs.declared.outcome.Outcome.TheVariants.{Refused}
 use Rattle.running.proofs.Holding.{Sub}
 
 -- the words of operands stand on o, the last uppermost: o'
@@ -28,7 +27,7 @@ pub record Fits (h : List Int) (n : ℕ) : Type 0 where
 
 -- a step refuses, or charges n and leaves the value's word; the cells grow by two for each unit at most
 pub data Does (B : ℕ) (t : Ty) (k p i c : ℕ) (h o e l : List Int) (n : Val t → ℕ) (s : Step) : Option (Val t) → Type 0 where
-  refuses : s ≡ stop (Refused k p) → Does B t k p i c h o e l n s none
+  refuses : s ≡ stop (refuse k p) → Does B t k p i c h o e l n s none
   puts : {v : Val t} (h' : List Int) (w : Int) → Sub h h' → length h' ≤ length h + 2 * n v → (Fits h' (n v) → Word h' t w v) →
       s ≡ pay B p (n v) (st (i + 1) c h' (w ∷ o) e l) → Does B t k p i c h o e l n s (some v)
 

@@ -1,5 +1,6 @@
 -- What cells hold, and that more cells hold it still.
 use Rattle.std.proofs.Common.{◌≡◌, ℕ, zero, suc, ◌+◌, ◌<◌, ◌≤◌, Bool, true, false, cond, List, [], ◌∷◌, ◌++◌, map, length, take, drop, sym, refl, ap, ◌∙◌, subst, add-zero, zero-add, add-one, arith}
+use Rattle.std.proofs.lemmas.Grind.{common_steps}
 use mathlib.Core.Option.{none, some}
 use Rattle.std.proofs.lemmas.List.{take-take}
 use Rattle.monoid.specs.declared.int.Int.{Int}
@@ -26,7 +27,7 @@ pub sub_trans : {h k l : List Int} → Sub h k → Sub k l → Sub h l
 sub_trans f g = record { kept = λ p w e. g.kept p w (f.kept p w e) }
 
 nth-append : (h k : List Int) (p : ℕ) (w : Int) → nth h p ≡ some w → nth (h ++ k) p ≡ some w
-nth-append [] k p w e = let z : ◌≡◌ {A = ℕ} 0 1 = cc in absurd (omega arith)
+nth-append [] k p w e = absurd cc
 nth-append (x ∷ h) k zero w e = e
 nth-append (x ∷ h) k (suc p) w e = nth-append h k p w e
 
@@ -34,7 +35,7 @@ pub sub_append : (h k : List Int) → Sub h (h ++ k)
 sub_append h k = record { kept = nth-append h k }
 
 pub word-nth : (h : List Int) (p : ℕ) (w : Int) → nth h p ≡ some w → word h p ≡ w
-word-nth [] p w e = let z : ◌≡◌ {A = ℕ} 0 1 = cc in absurd (omega arith)
+word-nth [] p w e = absurd cc
 word-nth (x ∷ h) zero w e = cc
 word-nth (x ∷ h) (suc p) w e = word-nth h p w e
 
@@ -70,7 +71,7 @@ row_down x h p (w ∷ ws) r = (r.0, row_down x h (suc p) ws r.1)
 
 pub row_take : (h : List Int) (p : ℕ) (ws : List Int) → Row h p ws → take (length ws) (drop p h) ≡ ws
 row_take h p [] r = refl
-row_take [] p (w ∷ ws) r = let e = r.0 in let z : ◌≡◌ {A = ℕ} 0 1 = cc in absurd (omega arith)
+row_take [] p (w ∷ ws) r = let e = r.0 in absurd cc
 row_take (x ∷ h) zero (w ∷ ws) r =
     let e = r.0 in
     let f : x ≡ w = cc in
@@ -260,21 +261,19 @@ list_each a h w xs r = subst (λ ws. Each (Holds h a) ws xs) (sym (list_elements
 -- the element at an index has its word at that index
 pub each_nth : {X : Type 0} (R : Int → X → Type 0) (h : List Int) (p : ℕ) (ws : List Int) (xs : List X) (i : ℕ) (x : X) → Row h p ws → Each R ws xs →
     nth xs i ≡ some x → R (word h (p + i)) x
-each_nth R h p [] [] i x r q e = let z : ◌≡◌ {A = ℕ} 0 1 = cc in absurd (omega arith)
+each_nth R h p [] [] i x r q e = absurd cc
 each_nth R h p [] (y ∷ xs) i x r q e = absurd q
 each_nth R h p (w ∷ ws) [] i x r q e = absurd q
-each_nth R h p (w ∷ ws) (y ∷ xs) zero x r q e =
-    let f : y ≡ x = cc in
-    subst (R (word h (p + 0))) f (subst (λ z. R z y) (sym (ap (word h) (add-zero p) ∙ word-nth h p w r.0)) q.0)
+each_nth R h p (w ∷ ws) (y ∷ xs) zero x r q e = grind (arith, common_steps, add-zero, word-nth)
 each_nth R h p (w ∷ ws) (y ∷ xs) (suc i) x r q e =
     let f : suc p + i ≡ p + suc i = omega arith in subst (λ n. R (word h n) x) f (each_nth R h (suc p) ws xs i x r.1 q.1 e)
 
 pub nth_in : {X : Type 0} (xs : List X) (i : ℕ) (x : X) → nth xs i ≡ some x → i < length xs
-nth_in [] i x e = let z : ◌≡◌ {A = ℕ} 0 1 = cc in absurd (omega arith)
+nth_in [] i x e = absurd cc
 nth_in (y ∷ xs) zero x e = omega arith
 nth_in (y ∷ xs) (suc i) x e = omega (arith, nth_in xs i x e)
 
 pub nth_out : {X : Type 0} (xs : List X) (i : ℕ) → nth xs i ≡ none → length xs ≤ i
 nth_out [] i e = omega arith
-nth_out (y ∷ xs) zero e = let z : ◌≡◌ {A = ℕ} 0 1 = cc in absurd (omega arith)
+nth_out (y ∷ xs) zero e = absurd cc
 nth_out (y ∷ xs) (suc i) e = omega (arith, nth_out xs i e)

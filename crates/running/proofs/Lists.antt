@@ -76,11 +76,7 @@ module _ (B p i c : ℕ) (h o e l : List Int) where
       let sum : sum_by (size_at h (boxed a)) ws ≡ m = sizes_each h a ws xs q.each in
       let all : sizes (copies k a) vs ≡ m = sizes-copies k a vs in
       one_block B a 0 p i c h o e l _ _ xs m ws refl (omega arith) q.each
-      (ap (λ z. pay B p (1 + sum_by (size_at h (boxed a)) z + (1 + sum_by (size_at h (boxed a)) z))
-      (st (i + 1) c (h ++ list_block (sum_by (size_at h (boxed a)) z) z) (count (length h) ∷ drop k o') e l)) top ∙
-      ap (λ n. pay B p (1 + n + (1 + n)) (st (i + 1) c (h ++ list_block n ws) (count (length h) ∷ drop k o') e l)) sum ∙
-      ap (λ z. pay B p (1 + m + (1 + m)) (st (i + 1) c (h ++ list_block m ws) (count (length h) ∷ z) e l)) rest ∙
-      ap (λ n. pay B p n (st (i + 1) c (h ++ list_block m ws) (count (length h) ∷ o) e l)) (omega arith))
+      (simp (top, sum, rest) (grind arith))
 
   pub hollows : (a : Ty) → Does B (list a) 0 p i c h o e l (λ z. prim_charge [] (list a) tt z) (do_hollow B p (st i c h o e l)) (some [])
   hollows a = one_block B a 0 p i c h o e l _ _ [] 0 [] refl (omega arith) tt refl
@@ -93,8 +89,7 @@ module _ (B p i c : ℕ) (h o e l : List Int) where
       let sum : sum_by (size int) xs ≡ n = sum_const (size int) 1 (λ x. refl) xs ∙ omega (arith, length-ints n) in
       one_block B int 0 p i c h o e l _ _ xs n xs (sym sum) (omega arith)
       (subst (λ ws. Each (Holds h int) ws xs) (map-id xs) (each_made (Holds h int) (λ x. x) (λ x. refl) xs))
-      (ap (λ u. do_range B p (st i c h (u ∷ o) e l)) eu ∙
-      ap (λ j. pay B p j (st (i + 1) c (h ++ list_block n xs) (count (length h) ∷ o) e l)) (omega arith))
+      (rw eu (grind arith))
 
   pub flats : (a : Ty) (u : Int) (xss : List (List (Val a))) → Holds h (list (list a)) u xss →
       Does B (list a) 0 p i c h o e l (λ z. prim_charge (list (list a) ∷ []) (list a) (xss, tt) z) (do_flat B p (st i c h (u ∷ o) e l))
@@ -107,5 +102,4 @@ module _ (B p i c : ℕ) (h o e l : List Int) where
       let sum : sum_by (size_less h) ws ≡ sum_by (size a) xs = each_sum (Holds h (list a)) (size_less h) (sum_by (size a)) (list_less a h) ws xss ea ∙
       sum-concat (size a) xss in
       one_block B a 0 p i c h o e l _ _ xs (sum_by (size_less h) ws) (flat_map (elements_at h) ws) sum (omega arith) (flat_each h a ws xss ea)
-      (ap (λ j. pay B p j (st (i + 1) c (h ++ list_block (sum_by (size_less h) ws) (flat_map (elements_at h) ws)) (count (length h) ∷ o) e l))
-      (omega arith))
+      (grind arith)

@@ -1,5 +1,6 @@
 -- What it is for the machine to do what a run's rule says, piece by piece.
 use Rattle.std.proofs.Common.{◌≡◌, ℕ, ◌+◌, ◌-◌, ◌*◌, ◌≤◌, Bool, true, false, cond, T, leb, List, length, ap, ◌∙◌, subst, add_assoc, zero-add, one-add, arith, leb→le}
+use Rattle.std.proofs.lemmas.Grind.{common_steps}
 use Rattle.std.proofs.lemmas.Bool.{lt-ltb, cond-true}
 use Rattle.monoid.specs.declared.int.Int.{Int}
 use Rattle.refusal.specs.declared.Refusal.{Refusal}
@@ -11,9 +12,7 @@ use Rattle.plan.specs.declared.table.Mark.{Mark}
 use Rattle.plan.specs.declared.table.Entry.{Entry}
 use Rattle.plan.specs.declared.table.Free.{Free}
 use Rattle.plan.specs.Planned.{Stands}
-use Rattle.running.specs.Machine.{State, st, Step, onto, stop, step, exec, pay, do_mark}
-use Rattle.running.specs.declared.outcome.Outcome.{Outcome}
-use Rattle.running.specs.declared.outcome.Outcome.TheVariants.{Refused}
+use Rattle.running.specs.Machine.{State, st, Step, onto, stop, step, exec, pay, do_mark, Outcome, refuse}
 
 -- d is within the budget, and the cells are at most K and two for each charge
 pub record Good (B K d : ℕ) (h : List Int) : Type 0 where
@@ -54,7 +53,7 @@ module _ (B K : ℕ) (H : HouseJoin) (os : List Entry) (fs : List Free) where
   -- that `out` names, where P holds. It takes at most three steps for each unit charged, less the slack s, or z if it refuses.
   pub data Meets {A X : Type 0} (s z c : ℕ) (m : State) (out : ℕ → List Int → A → State) (P : List Int → A → X → Type 0) : Answer Refusal (X × ℕ) →
       Type 0 where
-    fails : {a p : ℕ} (n : ℕ) → Stops n m (Refused a p) → n + z + 3 * c ≤ 3 * B + 3 → Meets s z c m out P (fail (refusal a p))
+    fails : {a p : ℕ} (n : ℕ) → Stops n m (refuse a p) → n + z + 3 * c ≤ 3 * B + 3 → Meets s z c m out P (fail (refusal a p))
     does : {x : X} {d : ℕ} (n : ℕ) (h : List Int) (a : A) → Goes n m (out d h a) → n + s + 3 * c ≤ 3 * d → Good B K d h → P h a x →
         Meets s z c m out P (ok (x, d))
 
@@ -98,7 +97,7 @@ module _ (B K : ℕ) (H : HouseJoin) (os : List Entry) (fs : List Free) where
   meets_ret {m = m} h a e lb p = does 0 h a (subst (Goes 0 m) e (goes_none m)) (omega arith) lb p
 
   paying : ℕ → ℕ → State → Bool → Step
-  paying p n m b = cond b (onto (st m.pc (m.charged + n) m.heap m.ops m.env m.loops)) (stop (Refused spent p))
+  paying p n m b = cond b (onto (st m.pc (m.charged + n) m.heap m.ops m.env m.loops)) (stop (refuse spent p))
 
   -- the charge at a node's end; the cells grow by two for each unit at most
   pub meets_pay : {A X : Type 0} {c : ℕ} {m : State} {out : ℕ → List Int → A → State} {P : List Int → A → X → Type 0} (x : X) (p n : ℕ) (m' : State)
@@ -136,7 +135,7 @@ module _ (B K : ℕ) (H : HouseJoin) (os : List Entry) (fs : List Free) where
   -- the machine is at the entry
   pub at_mark : {i p : ℕ} {k : Mark} (c : ℕ) (h o e l : List Int) → Stands os i k p →
       step B H os fs (st i c h o e l) ≡ do_mark B H fs k p (st i c h o e l)
-  at_mark {i = i} c h o e l r = cond-true _ _ _ (lt-ltb _ _ r.within) ∙ ap (λ q. do_mark B H fs q.mark q.place (st i c h o e l)) r.is
+  at_mark {i = i} c h o e l r = grind (arith, common_steps, cond-true, lt-ltb)
 
   -- the same, said of less
   pub meets_as : {A X : Type 0} {s z c : ℕ} {m : State} {out : ℕ → List Int → A → State} {P Q : List Int → A → X →

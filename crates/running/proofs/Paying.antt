@@ -1,13 +1,14 @@
 -- What a step writes is paid for.
-use Rattle.std.proofs.Common.{◌≡◌, ℕ, ◌+◌, ◌-◌, ◌*◌, ◌≤◌, Bool, true, false, cond, T, ltb, leb, List, [], ◌++◌, length, get_or, sym, refl, ap, ◌∙◌, arith, leb→le}
+use Rattle.std.proofs.Common.{rules, arith}
+use Rattle.std.proofs.Common.{◌≡◌, ℕ, ◌+◌, ◌*◌, ◌≤◌, Bool, true, false, cond, T, leb, List, [], ◌++◌, length, sym, refl, ap, ◌∙◌, arith, leb→le}
+use Rattle.std.proofs.lemmas.Grind.{common_steps}
 use mathlib.Core.Option.{Option, none, some}
 use Rattle.std.proofs.lemmas.List.{append-nil}
 use Rattle.monoid.specs.declared.int.Int.{Int}
-use Rattle.monoid.specs.Ints.{is_zero}
 use Rattle.grammar.specs.declared.occurrence.Operation.{Operation}
 use Rattle.grammar.specs.declared.occurrence.Operation.TheVariants.{Sum, Max, Or, Lin, House}
 use Rattle.rules.specs.Arithmetic.{infix_of}
-use Rattle.rules.specs.Primitives.{infix_failure, parted}
+use Rattle.rules.specs.Primitives.{infix_failure}
 use Rattle.rules.specs.Joining.{HouseJoin, joining}
 use Rattle.rules.specs.Run.{spent}
 use Rattle.plan.specs.declared.table.Task.{Task}
@@ -15,27 +16,17 @@ use Rattle.plan.specs.declared.table.Task.TheVariants.{Operate, MakePair, First,
 use Rattle.plan.specs.declared.table.Mark.{Mark}
 use Rattle.plan.specs.declared.table.Mark.TheVariants.{LetEnd, Leaf, Variable, Bind, Group, Basic, IfFork, IfElse, IfJoin, EachFork, EachFilter, EachJoin}
 use Rattle.plan.specs.declared.table.Free.{Free}
-use Rattle.plan.specs.Planned.{blank}
-use Rattle.running.specs.Cells.{word, place, elements_at, long_at}
-use Rattle.running.specs.Machine.{State, st, Step, onto, stop, pay, tried, top, under, topmost, do_task, do_mark, do_scan, do_reduce, or_words, gather, advance, inside}
+use Rattle.running.specs.Cells.{place}
+use Rattle.running.specs.Machine.{State, st, Step, onto, stop, pay, tried, top, under, topmost, do_task, do_mark, do_scan, do_reduce, or_words, Outcome, refuse}
 use Rattle.running.specs.Laws.{Paid, PaidLaw}
-use Rattle.running.specs.declared.outcome.Outcome.{Outcome}
-use Rattle.running.specs.declared.outcome.Outcome.TheVariants.{Refused}
 use Rattle.running.proofs.Bounds.{pair_paid, gather_paid, bracket_paid, range_paid, flat_paid, part_paid, scan_paid, scan_pairs_paid}
 
 never : {A : Type 0} (r : Outcome) (m : State) → stop r ≡ onto m → A
-never r m e = let z : ◌≡◌ {A = ℕ} 0 1 = cc in absurd (omega arith)
+never r m e = absurd cc
 
 -- the heap as it was, and the charges
 same : (B : ℕ) (m s m' : State) → s.heap ≡ m.heap → s.charged ≡ m.charged → onto s ≡ onto m' → Paid B m m'
-same B m s m' eh ec e =
-    let is : s ≡ m' = cc in
-    record {
-      block = [];
-      after = sym (ap (λ z. z.heap) is) ∙ eh ∙ sym (append-nil m.heap);
-      cells = omega (arith, ap (λ z. z.charged) is, ec);
-      budget = λ l. omega (arith, ap (λ z. z.charged) is, ec);
-    }
+same B m s m' eh ec e = grind (arith, common_steps, append-nil)
 
 -- a block is written, and n charged
 paid : (B p n : ℕ) (b : List Int) (m s m' : State) → s.heap ≡ m.heap ++ b → s.charged ≡ m.charged → length b ≤ 2 * n → pay B p n s ≡ onto m' →
@@ -43,12 +34,12 @@ paid : (B p n : ℕ) (b : List Int) (m s m' : State) → s.heap ≡ m.heap ++ b 
 paid B p n b m s m' eh ec le e = by (leb (s.charged + n) B) (leb→le (s.charged + n) B) e
   where
     by : (t : Bool) → (T t → s.charged + n ≤ B) → cond t (onto (st s.pc (s.charged + n) s.heap s.ops s.env s.loops))
-        (stop (Refused spent p)) ≡ onto m' → Paid B m m'
+        (stop (refuse spent p)) ≡ onto m' → Paid B m m'
     by true k q =
         let is : st s.pc (s.charged + n) s.heap s.ops s.env s.loops ≡ m' = cc in
         let ch : s.charged + n ≡ m'.charged = ap (λ z. z.charged) is in
         record { block = b; after = sym (ap (λ z. z.heap) is) ∙ eh; cells = omega (arith, ec); budget = λ l. omega (arith, k tt) }
-    by false k q = never (Refused spent p) m' q
+    by false k q = never (refuse spent p) m' q
 
 unchanged : (B p n : ℕ) (m s m' : State) → s.heap ≡ m.heap → s.charged ≡ m.charged → pay B p n s ≡ onto m' → Paid B m m'
 unchanged B p n m s m' eh ec e = paid B p n [] m s m' (eh ∙ sym (append-nil m.heap)) ec (omega arith) e
@@ -56,7 +47,7 @@ unchanged B p n m s m' eh ec e = paid B p n [] m s m' (eh ∙ sym (append-nil m.
 -- what is tried goes on, or the step stops
 trying : {A : Type 0} (B k p : ℕ) (w : Option A) (f : A → Step) (m m' : State) → ((a : A) → w ≡ some a → f a ≡ onto m' → Paid B m m') →
     tried k p w f ≡ onto m' → Paid B m m'
-trying B k p none f m m' g e = never (Refused k p) m' e
+trying B k p none f m m' g e = never (refuse k p) m' e
 trying B k p (some a) f m m' g e = g a refl e
 
 deciding : (B : ℕ) (t : Bool) (x y : Step) (m m' : State) → (x ≡ onto m' → Paid B m m') → (y ≡ onto m' → Paid B m m') → cond t x y ≡ onto m' →
@@ -69,7 +60,7 @@ module _ (B : ℕ) (H : HouseJoin) (p : ℕ) (m m' : State) where
   scan_pays Sum e = paid B p _ _ m _ m' refl refl (scan_paid (joining H Sum) m.heap (top m)) e
   scan_pays Max e = paid B p _ _ m _ m' refl refl (scan_paid (joining H Max) m.heap (top m)) e
   scan_pays Or e = paid B p _ _ m _ m' refl refl (scan_paid or_words m.heap (top m)) e
-  scan_pays Lin e = paid B p _ _ m _ m' refl refl (scan_pairs_paid m.heap (length m.heap) (top m)) e
+  scan_pays Lin e = grind (arith, common_steps, paid, scan_pairs_paid)
   scan_pays House e = paid B p _ _ m _ m' refl refl (scan_paid H m.heap (top m)) e
 
   reduce_pays : (f : Operation) → do_reduce B H f p m ≡ onto m' → Paid B m m'
@@ -81,19 +72,16 @@ module _ (B : ℕ) (H : HouseJoin) (p : ℕ) (m m' : State) where
 
   task_pays : (t : Task) → do_task B H t p m ≡ onto m' → Paid B m m'
   task_pays (Operate f) e = trying B (infix_failure f) p (infix_of f (under m) (top m)) _ m m' (λ v _ q. unchanged B p 4 m _ m' refl refl q) e
-  task_pays (MakePair x y) e = paid B p _ _ m _ m' refl refl (pair_paid m.heap x y 0 (under m) (top m)) e
+  task_pays (MakePair x y) e = grind (arith, common_steps, paid, pair_paid)
   task_pays (First x) e = unchanged B p _ m _ m' refl refl e
   task_pays (Second x) e = unchanged B p _ m _ m' refl refl e
   task_pays (Bracket k x) e = paid B p _ _ m _ m' refl refl (bracket_paid m.heap x (topmost k m)) e
   task_pays Hollow e = paid B p 2 _ m _ m' refl refl (omega arith) e
-  task_pays (Index x) e = deciding B (inside (top m).value (long_at m.heap (under m))) _ _ m m' (λ q. unchanged B p _ m _ m' refl refl q)
-      (λ q. never _ m' q) e
+  task_pays (Index x) e = search (rules, arith, deciding, unchanged, never)
   task_pays Length e = unchanged B p _ m _ m' refl refl e
   task_pays Range e = paid B p _ _ m _ m' refl refl (range_paid (place (top m))) e
   task_pays Flat e = paid B p _ _ m _ m' refl refl (flat_paid m.heap (top m)) e
-  task_pays (Part x) e =
-      trying B 20 p (parted (elements_at m.heap (under m)) (elements_at m.heap (top m))) _ m m'
-      (λ wss is q. paid B p _ _ m _ m' refl refl (part_paid m.heap x (length m.heap) (under m) (top m) wss is) q) e
+  task_pays (Part x) e = grind (arith, common_steps, trying, paid, part_paid)
   task_pays (Scan f) e = scan_pays f e
   task_pays (Reduce f) e = reduce_pays f e
 
@@ -109,12 +97,7 @@ module _ (B : ℕ) (H : HouseJoin) (p : ℕ) (m m' : State) where
   mark_pays fs (IfJoin x) e = unchanged B p _ m _ m' refl refl e
   mark_pays fs (EachFork j s) e = unchanged B p _ m _ m' refl refl e
   mark_pays fs (EachFilter j) e = same B m _ m' refl refl e
-  mark_pays fs (EachJoin j x) e =
-      let k : ℕ = length m.ops - place (word m.loops 2) in
-      deciding B (is_zero (word m.loops 1)) (gather B x k p m) (advance j (place (word m.loops 1)) m) m m'
-      (λ q. paid B p _ _ m _ m' refl refl (gather_paid m.heap x (topmost k m)) q) (λ q. same B m _ m' refl refl q) e
+  mark_pays fs (EachJoin j x) e = search (rules, arith, deciding, paid, gather_paid, same)
 
 pub paid_law : PaidLaw
-paid_law H B os fs m m' e =
-    deciding B (ltb m.pc (length os)) _ _ m m' (λ q. mark_pays B H (get_or os m.pc blank).place m m' fs (get_or os m.pc blank).mark q)
-    (λ q. never _ m' q) e
+paid_law H B os fs m m' e = grind (arith, common_steps, deciding, mark_pays, never)

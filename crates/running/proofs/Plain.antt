@@ -15,9 +15,8 @@ use Rattle.rules.specs.Primitives.{at, infix_failure}
 use Rattle.rules.specs.Charges.{prim_charge}
 use Rattle.plan.specs.Boxes.{boxed}
 use Rattle.running.specs.Cells.{word, place, size_at, long_at, pair_block}
-use Rattle.running.specs.Machine.{st, stop, pay, tried, answer_word, do_operate, do_pair, do_half, do_index, do_length, inside}
+use Rattle.running.specs.Machine.{st, stop, pay, tried, answer_word, do_operate, do_pair, do_half, do_index, do_length, inside, refuse}
 use Rattle.running.specs.Words.{Holds}
-use Rattle.running.specs.declared.outcome.Outcome.TheVariants.{Refused}
 use Rattle.running.proofs.Counts.{place_of}
 use Rattle.running.proofs.Holding.{Sub, sub_refl, sub_append, row_new, holds_sub, word-nth, new_pair, size_some, size-at, list_length, list_long, each_nth, nth_in, nth_out}
 use Rattle.running.proofs.Doing.{Does, refuses, puts}
@@ -114,14 +113,14 @@ module _ (B p i c : ℕ) (h o e l : List Int) where
   indexed : (a : Ty) (u k : Int) (xs : List (Val a)) (z : ℤ) → Holds h (list a) u xs →
       Does B a 19 p i c h o e l (λ z. prim_charge (list a ∷ int ∷ []) a (xs, (k, tt)) z)
       (cond (inside z (long_at h u)) (pay B p (1 + (size_at h true u + 1) + size_at h (boxed a) (word h (place u + 2 + many z)))
-      (st (i + 1) c h (word h (place u + 2 + many z) ∷ o) e l)) (stop (Refused 19 p))) (at xs z)
+      (st (i + 1) c h (word h (place u + 2 + many z) ∷ o) e l)) (stop (refuse 19 p))) (at xs z)
   indexed a u k xs (negsuc z) r = refuses refl
   indexed a u k xs (pos z) r = by (nth xs z) refl (list_long a h u xs r)
     where
       by : (m : Option (Val a)) → nth xs z ≡ m → long_at h u ≡ length xs →
           Does B a 19 p i c h o e l (λ z. prim_charge (list a ∷ int ∷ []) a (xs, (k, tt)) z)
           (cond (ltb z (long_at h u)) (pay B p (1 + (size_at h true u + 1) + size_at h (boxed a) (word h (place u + 2 + z)))
-          (st (i + 1) c h (word h (place u + 2 + z) ∷ o) e l)) (stop (Refused 19 p))) m
+          (st (i + 1) c h (word h (place u + 2 + z) ∷ o) e l)) (stop (refuse 19 p))) m
       by none q long = let f : long_at h u ≤ z = omega (arith, long, nth_out xs z q) in refuses (cond-false _ _ _ (le-ltb _ _ f))
       by (some x) q long =
           let w : Int = word h (place u + 2 + z) in

@@ -1,5 +1,6 @@
 -- The machine on a table does what the rules say of the expression that the table has.
 use Rattle.std.proofs.Common.{ℕ, suc, ◌+◌, ◌≤◌, List, ◌∷◌, length, refl, ap, ◌∙◌, arith}
+use Rattle.std.proofs.lemmas.Grind.{common_steps}
 use Rattle.monoid.specs.declared.int.Int.{Int}
 use Rattle.monoid.specs.Ints.{int_zero}
 use Rattle.types.specs.Types.{Ty, list}
@@ -31,13 +32,7 @@ leaf_holds h (truth b) = refl
 -- a loop begins at a list's first element
 begins : (a : Ty) (h : List Int) (w : Int) (xs : List (Val a)) (r : Holds h (list a) w xs) →
     Looped h w r.p (length xs) (length xs) (suc (suc r.p))
-begins a h w xs r = record {
-  at = place_of w r.p r.is r.there;
-  long = r.row.1.0;
-  few = omega (arith, r.few, list_few a xs);
-  next = omega arith;
-  left = omega arith;
-}
+begins a h w xs r = grind (arith, common_steps, place_of, list_few)
 
 module _ (B K Z : ℕ) (H : HouseJoin) (os : List Entry) (fs : List Free) (roomy : Roomy B K Z) (tasks : Tasks B H) where
   mutual

@@ -1,5 +1,6 @@
 -- Scans and reductions.
 use Rattle.std.proofs.Common.{◌≡◌, ℕ, suc, ◌+◌, ◌*◌, Bool, true, false, not, ◌||◌, List, [], ◌∷◌, ◌++◌, map, length, sym, refl, ap, ◌∙◌, add-one, arith, length-append}
+use Rattle.std.proofs.lemmas.Grind.{common_steps}
 use mathlib.Core.Option.{some}
 use Rattle.std.proofs.lemmas.List.{length-map, map-id}
 use Rattle.monoid.specs.declared.int.Int.{Int}
@@ -14,7 +15,7 @@ use Rattle.lang.specs.Expr.{joined}
 use Rattle.lang.specs.Layout.{flag, count}
 use Rattle.rules.specs.Charges.{prim_charge}
 use Rattle.rules.specs.Joining.{Joining, HouseJoin, joining}
-use Rattle.running.specs.Cells.{word, place, size_less, size_at, elements_at, halves_at, pair_block, list_block, words_from, nested}
+use Rattle.running.specs.Cells.{size_less, size_at, elements_at, halves_at, pair_block, list_block, words_from, nested}
 use Rattle.running.specs.Machine.{st, pay, or_words, lin_pairs, scan_words, reduce_words, scan_pairs, reduce_pairs, do_scan, do_reduce}
 use Rattle.running.specs.Words.{Holds}
 use Rattle.running.proofs.Counts.{place_of}
@@ -70,13 +71,7 @@ or_alike = record { unit = refl; op = by }
 
 -- the halves of pairs of ints
 halves_same : (h : List Int) (w : Int) (q : Int × Int) → Holds h (pair int int) w q → halves_at h w ≡ q
-halves_same h w q r =
-    let two : r.p + 2 ≡ suc (suc r.p) = omega arith in
-    let e0 : word h (place w + 1) ≡ q.0 = ap (λ k. word h (k + 1)) (place_of w r.p r.is r.there) ∙ ap (word h) (add-one r.p) ∙
-    word-nth h (suc r.p) _ r.row.1.0 ∙ r.left in
-    let e1 : word h (place w + 2) ≡ q.1 = ap (λ k. word h (k + 2)) (place_of w r.p r.is r.there) ∙ ap (word h) two ∙
-    word-nth h (suc (suc r.p)) _ r.row.1.1.0 ∙ r.right in
-    ap (λ z. (z, word h (place w + 2))) e0 ∙ ap (λ z. (q.0, z)) e1
+halves_same h w q r = grind (arith, common_steps, place_of, add-one, word-nth)
 
 pub pairs_length : (zs : List (Int × Int)) → length (concat (map (λ q. pair_block 1 q.0 q.1) zs)) ≡ 3 * length zs
 pairs_length [] = refl

@@ -1,5 +1,6 @@
 -- The whole run.
-use Rattle.std.proofs.Common.{◌≡◌, ℕ, ◌+◌, ◌-◌, ◌≤◌, List, ◌∷◌, length, sym, refl, ap, ◌∙◌, subst, arith}
+use Rattle.std.proofs.Common.{◌≡◌, ℕ, ◌+◌, ◌-◌, List, ◌∷◌, length, Err, sym, refl, ap, ◌∙◌, subst, arith}
+use Rattle.std.proofs.lemmas.Grind.{common_steps}
 use Rattle.std.proofs.lemmas.Bool.{cond-false, le-ltb}
 use Rattle.monoid.specs.declared.int.Int.{Int}
 use Rattle.refusal.specs.declared.Refusal.{Refusal}
@@ -10,9 +11,8 @@ use Rattle.rules.specs.Outcome.{Work, fail}
 use Rattle.rules.specs.Outcome.{refusal}
 use Rattle.plan.specs.declared.table.Entry.{Entry}
 use Rattle.plan.specs.declared.table.Free.{Free}
-use Rattle.running.specs.declared.outcome.Outcome.{Outcome}
-use Rattle.running.specs.declared.outcome.Outcome.TheVariants.{Value, Spent}
-use Rattle.running.specs.Machine.{State, st, onto, stop, step, exec}
+use Rattle.running.specs.declared.outcome.Halt.TheVariants.{Spent}
+use Rattle.running.specs.Machine.{State, st, onto, stop, step, exec, Outcome, answer}
 use Rattle.running.specs.Laws.{Says, value, refused, fuel, RunningLaw}
 use Rattle.running.proofs.Meets.{Meets, fails, does, goes_one, ends_one}
 use Rattle.running.proofs.Forks.{Left, on_top}
@@ -20,8 +20,8 @@ use Rattle.running.proofs.Runs.{runs}
 use Rattle.running.proofs.Tasks.{tasks}
 
 module _ (B : ℕ) (H : HouseJoin) (os : List Entry) (fs : List Free) where
-  at_end : (d : ℕ) (h o e l : List Int) (w : Int) → step B H os fs (st (length os) d h (w ∷ o) e l) ≡ stop (Value w d)
-  at_end d h o e l w = let q : length os ≤ length os = omega arith in cond-false _ _ _ (le-ltb _ _ q)
+  at_end : (d : ℕ) (h o e l : List Int) (w : Int) → step B H os fs (st (length os) d h (w ∷ o) e l) ≡ stop (answer w d)
+  at_end d h o e l w = grind (arith, common_steps, cond-false, le-ltb)
 
   said : {t : Ty} {w : Work Refusal (Val t)} (r r' : Outcome × List Int) → r ≡ r' → Says r'.1 t w r'.0 → Says r.1 t w r.0
   said {t = t} {w = w} r r' e s = subst (λ q. Says q.1 t w q.0) (sym e) s
@@ -35,9 +35,9 @@ module _ (B : ℕ) (H : HouseJoin) (os : List Entry) (fs : List Free) where
       (sym (ap (λ i. (exec B H i os fs m).0) k ∙ s.stops (fuel B - n))) refused
   ended {t = t} K h o e l m (does {x = v} {d = d} n h' w g le lb q) =
       let k : fuel B ≡ n + (1 + (fuel B - n - 1)) = omega (arith, lb.paid) in
-      said (exec B H (fuel B) os fs m) (Value w d, h')
+      said (exec B H (fuel B) os fs m) (answer w d, h')
       (ap (λ i. exec B H i os fs m) k ∙ g.goes (1 + (fuel B - n - 1)) ∙
-      ends_one B K H os fs (fuel B - n - 1) (st (length os) d h' (w ∷ o) e l) (Value w d) (at_end d h' o e l w)) (value q.val)
+      ends_one B K H os fs (fuel B - n - 1) (st (length os) d h' (w ∷ o) e l) (answer w d) (at_end d h' o e l w)) (value q.val)
 
   -- a step, as the loop of a run takes it
   pub exec-go : (n k : ℕ) (m m' : State) → n ≡ k + 1 → step B H os fs m ≡ onto m' → exec B H n os fs m ≡ exec B H k os fs m'
@@ -46,7 +46,7 @@ module _ (B : ℕ) (H : HouseJoin) (os : List Entry) (fs : List Free) where
   pub exec_stop : (n k : ℕ) (m : State) (r : Outcome) → n ≡ k + 1 → step B H os fs m ≡ stop r → exec B H n os fs m ≡ (r, m.heap)
   exec_stop n k m r e s = let f : n ≡ 1 + k = omega arith in ap (λ i. exec B H i os fs m) f ∙ ends_one B 0 H os fs k m r s
 
-  pub exec_none : (m : State) → exec B H 0 os fs m ≡ (Spent, m.heap)
+  pub exec_none : (m : State) → exec B H 0 os fs m ≡ (Err Spent, m.heap)
   unfolding exec
   exec_none m = refl
 

@@ -16,8 +16,7 @@ use Rattle.plan.specs.declared.table.Mark.TheVariants.{Leaf, Variable, Basic, Ea
 use Rattle.plan.specs.declared.table.Entry.{Entry}
 use Rattle.plan.specs.declared.table.Free.{Free}
 use Rattle.plan.specs.Planned.{Planned}
-use Rattle.running.specs.declared.outcome.Outcome.TheVariants.{Value, Refused}
-use Rattle.running.specs.Machine.{st, exec}
+use Rattle.running.specs.Machine.{answer, refuse, st, exec}
 use Rattle.running.specs.Words.{Kept}
 use Rattle.running.specs.Laws.{fuel}
 
@@ -52,7 +51,7 @@ pub record ExampleLaw : Type 0 where
   pub kept : Kept cells (list int ∷ []) words input
   -- what the rules say, and how the machine ends: with the place of the new list
   pub rules : (H : HouseJoin) → direct H 68 body input 0 ≡ ok (count 6 ∷ count 9 ∷ [], 68)
-  pub machine : (H : HouseJoin) → (exec 68 H (fuel 68) table variables (st 0 0 cells [] words [])).0 ≡ Value (count 5) 68
+  pub machine : (H : HouseJoin) → (exec 68 H (fuel 68) table variables (st 0 0 cells [] words [])).0 ≡ answer (count 5) 68
   -- with one unit less both are refused at the end
   pub rules_less : (H : HouseJoin) → direct H 67 body input 0 ≡ fail (refusal 17 0)
-  pub machine_less : (H : HouseJoin) → (exec 67 H (fuel 67) table variables (st 0 0 cells [] words [])).0 ≡ Refused 17 0
+  pub machine_less : (H : HouseJoin) → (exec 67 H (fuel 67) table variables (st 0 0 cells [] words [])).0 ≡ refuse 17 0

@@ -13,15 +13,13 @@ use Rattle.rules.specs.Direct.{direct}
 use Rattle.plan.specs.declared.table.Entry.{Entry}
 use Rattle.plan.specs.declared.table.Free.{Free}
 use Rattle.plan.specs.Planned.{Planned}
-use Rattle.running.specs.declared.outcome.Outcome.{Outcome}
-use Rattle.running.specs.declared.outcome.Outcome.TheVariants.{Value, Refused}
-use Rattle.running.specs.Machine.{State, st, onto, step, exec}
+use Rattle.running.specs.Machine.{State, Outcome, answer, refuse, st, onto, step, exec}
 use Rattle.running.specs.Words.{limit, Word, Kept}
 
 -- what the rules say is what came out: the value's word with the work, or the refusal
 pub data Says (h : List Int) (t : Ty) : Work Refusal (Val t) → Outcome → Type 0 where
-  value : {v : Val t} {w : Int} {d : ℕ} → Word h t w v → Says h t (ok (v, d)) (Value w d)
-  refused : {n p : ℕ} → Says h t (fail (refusal n p)) (Refused n p)
+  value : {v : Val t} {w : Int} {d : ℕ} → Word h t w v → Says h t (ok (v, d)) (answer w d)
+  refused : {n p : ℕ} → Says h t (fail (refusal n p)) (refuse n p)
 
 -- enough steps for a run under the budget B
 abbrev pub fuel : ℕ → ℕ

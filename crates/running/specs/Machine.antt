@@ -1,5 +1,5 @@
 -- The machine of direct runs: one entry of the table at a time.
-use Rattle.std.specs.Prelude.{ℕ, zero, suc, ◌+◌, ◌-◌, ◌*◌, Bool, true, false, cond, not, ◌||◌, List, [], ◌∷◌, ◌++◌, map, reverse, length, take, drop, ℤ, pos, negsuc, nat_le, nat_lt, slice_index_or}
+use Rattle.std.specs.Prelude.{ℕ, zero, suc, ◌+◌, ◌-◌, ◌*◌, Bool, true, false, cond, not, ◌||◌, List, [], ◌∷◌, ◌++◌, map, reverse, length, take, drop, ℤ, pos, negsuc, nat_le, nat_lt, slice_index_or, Result, Ok, Err}
 use Rattle.std.proofs.Math.Option.{Option, none, some}
 use Rattle.monoid.specs.declared.int.Int.{Int}
 use Rattle.monoid.specs.Ints.{int_zero, int_one, int_sum, int_product, is_zero}
@@ -17,6 +17,7 @@ use Rattle.rules.specs.Arithmetic.{infix_of}
 use Rattle.rules.specs.Primitives.{infix_failure, ints_below, parted}
 use Rattle.rules.specs.Joining.{Joining, HouseJoin, joining}
 use Rattle.rules.specs.Run.{spent}
+use Rattle.rules.specs.Outcome.{refusal}
 use Rattle.plan.specs.declared.table.Task.{Task}
 use Rattle.plan.specs.declared.table.Task.TheVariants.{Operate, MakePair, First, Second, Bracket, Hollow, Index, Length, Range, Flat, Part, Scan, Reduce}
 use Rattle.plan.specs.declared.table.Mark.{Mark}
@@ -26,8 +27,9 @@ use Rattle.plan.specs.declared.table.Free.{Free}
 use Rattle.plan.specs.Boxes.{part}
 use Rattle.plan.specs.Planned.{blank}
 use Rattle.running.specs.Cells.{word, place, size_less, size_at, long_at, elements_at, halves_at, pair_block, list_block, nested, sizes_of}
-use Rattle.running.specs.declared.outcome.Outcome.{Outcome}
-use Rattle.running.specs.declared.outcome.Outcome.TheVariants.{Value, Refused, Spent}
+use Rattle.running.specs.declared.outcome.Ran.{Ran}
+use Rattle.running.specs.declared.outcome.Halt.{Halt}
+use Rattle.running.specs.declared.outcome.Halt.TheVariants.{Refused, Spent}
 
 -- the entry that comes next, the charges so far, the values' cells, and three stacks, their tops first: operands, variables, loops
 pub record State : Type 0 where
@@ -41,17 +43,27 @@ pub record State : Type 0 where
 abbrev pub st : ℕ → ℕ → List Int → List Int → List Int → List Int → State
 st i c h o e l = record { pc = i; charged = c; heap = h; ops = o; env = e; loops = l }
 
+-- how a run ends: with the word of the value and the work, or refused, or with no steps left
+abbrev pub Outcome : Type 0
+Outcome = Result Ran Halt
+
+abbrev pub answer : Int → ℕ → Outcome
+answer w n = Ok (record { word = w; work = n })
+
+abbrev pub refuse : ℕ → ℕ → Outcome
+refuse n p = Err (Refused (refusal n p))
+
 pub data Step : Type 0 where
   onto : State → Step
   stop : Outcome → Step
 
 -- charges n at the place p, or refuses
 abbrev pub pay : ℕ → ℕ → ℕ → State → Step
-pay B p n m = cond (nat_le (m.charged + n) B) (onto (st m.pc (m.charged + n) m.heap m.ops m.env m.loops)) (stop (Refused spent p))
+pay B p n m = cond (nat_le (m.charged + n) B) (onto (st m.pc (m.charged + n) m.heap m.ops m.env m.loops)) (stop (refuse spent p))
 
 -- what there is to go on with, or a refusal where there is nothing
 abbrev pub tried : {A : Type 0} → ℕ → ℕ → Option A → (A → Step) → Step
-tried k p none f = stop (Refused k p)
+tried k p none f = stop (refuse k p)
 tried k p (some a) f = f a
 
 -- k operands are taken and w is pushed
@@ -120,7 +132,7 @@ abbrev pub do_index : ℕ → Bool → ℕ → State → Step
 do_index B x p m =
     let w : Int = word m.heap (place (under m) + 2 + place (top m)) in
     cond (inside (top m).value (long_at m.heap (under m)))
-    (pay B p (1 + (size_at m.heap true (under m) + 1) + size_at m.heap x w) (leaves m 2 w)) (stop (Refused 19 p))
+    (pay B p (1 + (size_at m.heap true (under m) + 1) + size_at m.heap x w) (leaves m 2 w)) (stop (refuse 19 p))
 
 abbrev pub do_length : ℕ → ℕ → State → Step
 do_length B p m = pay B p (1 + size_at m.heap true (top m) + 1) (leaves m 1 (word m.heap (place (top m) + 1)))
@@ -291,9 +303,9 @@ module _ (B : ℕ) (H : HouseJoin) where
   -- past the last entry the run ends with the uppermost operand
   abbrev pub step : List Entry → List Free → State → Step
   step os fs m =
-      cond (nat_lt m.pc (length os)) (do_mark fs (slice_index_or os m.pc blank).mark (slice_index_or os m.pc blank).place m) (stop (Value (top m) m.charged))
+      cond (nat_lt m.pc (length os)) (do_mark fs (slice_index_or os m.pc blank).mark (slice_index_or os m.pc blank).place m) (stop (answer (top m) m.charged))
 
   -- at most n steps: how the run ends, and the values' cells then
   unfoldable pub exec : ℕ → List Entry → List Free → State → Outcome × List Int
-  exec zero os fs m = (Spent, m.heap)
+  exec zero os fs m = (Err Spent, m.heap)
   exec (suc n) os fs m = elim (step os fs m) [ onto m' ↦ exec n os fs m' | stop r ↦ (r, m.heap) ]

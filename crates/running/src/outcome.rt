@@ -1,10 +1,17 @@
-// How a direct run ends.
+// How a direct run ends: a `Result` of these two.
 use monoid::int::Int;
+use refusal::Refusal;
 
-// The word of the value and the work; or the number and place of a refusal; or no steps are left.
+// The word of the value, and the work.
 #[derive(Clone, Copy)]
-pub enum Outcome {
-    Value(Int, usize),
-    Refused(usize, usize),
+pub struct Ran {
+    pub word: Int,
+    pub work: usize,
+}
+
+// It is refused, or no steps are left.
+#[derive(Clone, Copy)]
+pub enum Halt {
+    Refused(Refusal),
     Spent,
 }

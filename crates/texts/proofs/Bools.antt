@@ -1,7 +1,8 @@
 -- Reading a bool, from what a text has in common with both words.
-use Rattle.std.proofs.Common.{◌≡◌, ℕ, ◌+◌, ◌<◌, ◌≤◌, max, Bool, true, false, List, [], ◌++◌, length, get_or, take, drop, sym, ap, ◌∙◌, ⊎_elim, append-nil, arith, length-append, take-append-drop}
-use Rattle.std.proofs.lemmas.List.{take_all, take_at, take_more_same, get_or-take, length-take-le}
+use Rattle.std.proofs.Common.{◌≡◌, ℕ, ◌<◌, ◌≤◌, max, Bool, true, false, List, [], ◌++◌, length, get_or, take, drop, sym, ap, ◌∙◌, ⊎_elim, append-nil, arith, length-append, take-append-drop}
+use Rattle.std.proofs.lemmas.List.{take_all, take_at, get_or-take, length-take-le}
 use Rattle.std.proofs.lemmas.Bool.{cases_lt}
+use Rattle.std.proofs.lemmas.Grind.{same_number_lists}
 use Rattle.texts.specs.Bools.{Common}
 use Rattle.values.specs.Reading.{Begins, ReadsFront, StopsAt}
 use Rattle.texts.specs.Texts.{bool_text}
@@ -9,36 +10,34 @@ use Rattle.values.proofs.Fronts.{whole_is, whole_within}
 use Rattle.values.proofs.Separate.{free_reads}
 use Rattle.texts.proofs.Types.{bool_free}
 
-module _ (word s : List ℕ) (n : ℕ) (same : take n s ≡ take n word) where
-  -- it ends where one ends, or where they differ
-  pub common_at : n ≤ length s → n ≤ length word → (n < length s → n < length word → get_or s n 0 ≡ get_or word n 0 → ⊥) → Common word s n
-  common_at within inside differs = record {
-    within = within;
-    inside = inside;
-    same = same;
-    beyond = λ k past fits-s fits-w e. differs (omega arith) (omega arith)
-        (sym (get_or-take k s n 0 past) ∙ ap (λ t. get_or t n 0) e ∙ get_or-take k word n 0 past);
-  }
+module _ (word s : List ℕ) (n : ℕ) (c : Common word s n) where
+  same_front : take n s ≡ take n word
+  same_front = same_number_lists (take n s) (take n word)
+      (length-take-le n s c.within ∙ sym (length-take-le n word c.inside))
+      (λ k less.
+      let below : k < n = omega (arith, less, length-take-le n s c.within) in
+      get_or-take n s k 0 below ∙ c.same k below ∙ sym (get_or-take n word k 0 below))
 
-  pub common_more : n < length s → n < length word → get_or s n 0 ≡ get_or word n 0 → take (n + 1) s ≡ take (n + 1) word
-  common_more p q e = take_more_same s word n 0 p q same e
+  no_more : (k : ℕ) → n < k → k ≤ length s → k ≤ length word → take k s ≡ take k word → ⊥
+  no_more k past fits-s fits-w e =
+      c.beyond (omega arith) (omega arith) (sym (get_or-take k s n 0 past) ∙ ap (λ t. get_or t n 0) e ∙ get_or-take k word n 0 past)
 
 module _ (s : List ℕ) where
   pub whole_word : (b : Bool) (n : ℕ) → Common (bool_text b) s n → n ≡ length (bool_text b) → ReadsFront bool_text s b n
-  whole_word b n c all = free_reads bool_text bool_free s b n c.within (c.same ∙ take_all n (bool_text b) (omega (arith, all)))
+  whole_word b n c all = free_reads bool_text bool_free s b n c.within (same_front (bool_text b) s n c ∙ take_all n (bool_text b) (omega (arith, all)))
 
   -- a beginning of s that begins the word of b is no longer than what both have in common
   no_longer : (b : Bool) (n k : ℕ) (r : List ℕ) → Common (bool_text b) s n → n < k → k ≤ length s → bool_text b ≡ take k s ++ r → ⊥
   no_longer b n k r c past fits e =
       let long : length (take k s) ≡ k = length-take-le k s fits in
-      c.beyond k past fits (omega (arith, ap length e, length-append (take k s) r, long)) (sym (take_at (take k s) r k long) ∙ ap (take k) (sym e))
+      no_more (bool_text b) s n c k past fits (omega (arith, ap length e, length-append (take k s) r, long)) (sym (take_at (take k s) r k long) ∙ ap (take k) (sym e))
 
   front_begins : (b : Bool) (n : ℕ) → Common (bool_text b) s n → Begins bool_text (take n s)
   front_begins b n c = record {
     value = b;
     rest = drop n (bool_text b);
     is = sym (take-append-drop n (bool_text b)) ∙ ap (λ t. t ++ drop n (bool_text b))
-        (sym c.same);
+        (sym (same_front (bool_text b) s n c));
   }
 
   module _ (yes no m : ℕ) (t : Common (bool_text true) s yes) (f : Common (bool_text false) s no) (p : yes ≡ 4 → ⊥) (q : no ≡ 5 → ⊥) where

@@ -1,174 +1,190 @@
 -- Reading a list from a place on, element by element.
-use Rattle.std.proofs.Common.{◌≡◌, ℕ, ◌+◌, ◌<◌, Bool, true, false, List, [], ◌∷◌, ◌++◌, length, get_or, drop, set, pos, sym, refl, ap, ◌∙◌, subst, ap₂, inl, inr, append_assoc, append-nil, arith, lit<, length-append, length-drop}
+use Rattle.std.proofs.Common.{◌≡◌, ℕ, ◌+◌, Bool, true, false, not, List, [], ◌∷◌, ◌++◌, length, get_or, drop, set, pos, Some, sym, refl, ap, ◌∙◌, subst, ap₂, inl, inr, append_assoc, append-nil, arith, lit<}
 use lib.Seq.{sets}
-use Rattle.std.proofs.lemmas.List.{take_more, length_push, length-take-le}
+use denote.Enum.Bare.{sameb}
+use Rattle.values.specs.contracts.sign.Sign.{the_type}
+use Rattle.std.specs.Bool.{MatchBool}
+use Rattle.std.specs.List.{slice_get}
+use Rattle.std.proofs.lemmas.List.{take_more, length_push}
+use Rattle.std.proofs.lemmas.Option.{get_or_from_slice_get}
 use Rattle.std.proofs.lemmas.Int.{int_wrap-add_left, int_wrap_fits}
 use Rattle.monoid.specs.declared.int.Int.{Int}
 use Rattle.monoid.specs.Ints.{width, int_zero, int_one, int_sum}
 use Rattle.monoid.specs.IntsLemmas.{same_int}
 use Rattle.types.specs.Types.{Ty, list}
-use Rattle.lang.specs.Values.{Val, size, sum_by}
+use Rattle.lang.specs.Values.{Val}
 use Rattle.lang.specs.Layout.{cells, count, flat_map}
-use Rattle.texts.specs.declared.phrase.Reached.{Reached}
-use Rattle.values.specs.Lists.{sign_of, ElementIs, NoElement, each_text, Opened}
+use Rattle.texts.specs.declared.reader.Reader.{Reader}
+use Rattle.values.specs.Lists.{ElementIs, NoElement, Opened}
+use Rattle.values.specs.Reading.{ReadsFront}
+use Rattle.values.specs.Signs.{byte_of}
+use Rattle.values.specs.declared.sign.Sign.{Sign}
+use Rattle.values.specs.declared.sign.Sign.TheVariants.{Comma, Bracket}
+use Rattle.values.specs.Texts.{list_text}
 use Rattle.texts.specs.Texts.{value_text}
-use Rattle.texts.specs.Phrases.{Sound, ValueRead, ValueStops}
+use Rattle.texts.specs.Phrases.{Advanced, ByteRead, NoByte, NoSign, Stores, OpensList}
 use Rattle.values.proofs.Lists.{element_opens, element_closes, list_stops, not_opened, just_opened, empty_read}
-use Rattle.texts.proofs.Phrases.{byte_within, byte_past, past_it, phrase_read}
-use Rattle.texts.proofs.Stores.{sets_append, set_first}
-use Rattle.texts.proofs.Types.{value_separate, size_short, each_short, cells-size}
+use Rattle.texts.proofs.Phrases.{ValueRead, ValueStops, rest_of, byte_is, rest_behind, byte_behind, advanced_then, next_byte, next_within, next_is, past_it}
+use Rattle.texts.proofs.Stores.{set_first}
+use Rattle.texts.proofs.Types.{value_separate}
 
 -- ---- lengths as cells
-pub count_none : int_zero ≡ count 0
+count_none : int_zero ≡ count 0
 count_none = same_int int_zero (count 0) (sym (int_wrap_fits width (pos 0) (record { sfits = lit< tt })))
 
-pub count_more : (n : ℕ) → int_sum (count n) int_one ≡ count (n + 1)
+count_more : (n : ℕ) → int_sum (count n) int_one ≡ count (n + 1)
 count_more n = same_int (int_sum (count n) int_one) (count (n + 1)) (int_wrap-add_left width (pos n) (pos 1))
 
--- ---- sums and cells, one element more
-sum_push : {X : Type 0} (big : X → ℕ) (xs : List X) (x : X) → sum_by big (xs ++ (x ∷ [])) ≡ sum_by big xs + big x
-sum_push big [] x = omega arith
-sum_push big (y ∷ xs) x = omega (arith, sum_push big xs x)
-
+-- cells, one element more
 each_push : {X : Type 0} (row : X → List Int) (xs : List X) (x : X) → flat_map row (xs ++ (x ∷ [])) ≡ flat_map row xs ++ row x
 each_push row [] x = append-nil (row x)
 each_push row (y ∷ xs) x = ap (λ t. row y ++ t) (each_push row xs x) ∙ sym (append_assoc (row y) (flat_map row xs) (row x))
 
-each_cells : (t : Ty) (xs : List (Val t)) → length (flat_map (cells t) xs) ≡ sum_by (size t) xs
-each_cells t [] = refl
-each_cells t (x ∷ xs) = length-append (cells t x) (flat_map (cells t) xs) ∙ ap₂ (λ (m n : ℕ). m + n) (cells-size t x) (each_cells t xs)
-
--- ---- the elements so far: a list that is open, whose elements' cells are stored
-pub record ListSoFar (t : Ty) (s : List ℕ) (from to : Reached) (n : Int) (cs cs' : List Int) : Type 0 where
+-- ---- some elements are read, with long bytes behind the opening bracket
+pub record Elements (t : Ty) (Is : List (Val t) → ℕ → Type 0) (from to : Reader) (header : ℕ) (n : Int) : Type 0 where
+  pub at : Reader
+  pub opens : OpensList header from at
   pub elements : List (Val t)
   pub long : ℕ
-  pub opened : Opened (value_text t) (drop from.at s) elements long
-  pub end : to.at ≡ from.at + long
-  pub used : to.used ≡ from.used + size (list t) elements
+  pub is : Is elements (1 + long)
+  pub moved : Advanced at to long (flat_map (cells t) elements)
   pub counted : n ≡ count (length elements)
-  pub stored : cs' ≡ sets cs (from.used + 1) (flat_map (cells t) elements)
-  pub start : Sound s from
 
-module _ (t : Ty) (s : List ℕ) (from : Reached) where
-  abbrev rest_of : List ℕ
-  rest_of = drop from.at s
+-- more elements follow, or the list is closed
+abbrev pub ListSoFar : Ty → Bool → Reader → Reader → ℕ → Int → Type 0
+ListSoFar t true from to header n = Elements t (λ xs long. Opened (value_text t) (rest_of from) xs long) from to header n
+ListSoFar t false from to header n = Elements t (λ xs long. ReadsFront (list_text (value_text t)) (rest_of from) xs long) from to header n
 
-  first_byte : get_or rest_of 0 0 ≡ get_or s from.at 0
-  first_byte = byte_past s from.at from.at 0 (omega arith)
+module _ (t : Ty) (from : Reader) where
+  first_byte : get_or (rest_of from) 0 0 ≡ get_or from.text.now from.at 0
+  first_byte = byte_behind from from 0 refl (omega arith)
 
-  second_byte : get_or rest_of 1 0 ≡ get_or s (from.at + 1) 0
-  second_byte = byte_past s from.at (from.at + 1) 1 refl
+  pub unopened_list : (p : ℕ) → NoByte 91 from p → ValueStops (list t) from p
+  unopened_list p miss = record { long = 0; end = omega (arith, miss.end); is = not_opened (value_text t) (rest_of from) (λ e. miss.other (byte_is from.text.now from.at 90 (sym first_byte ∙ e))) }
 
-  pub list_starts : (get_or s from.at 0 ≡ 91 → ⊥) → ValueStops (list t) s from.at from.at
-  list_starts other = record { long = 0; end = omega arith; is = not_opened (value_text t) rest_of (λ e. other (sym first_byte ∙ e)) }
+  module _ (at : Reader) (header : ℕ) (opens : OpensList header from at) where
+    first_is : get_or (rest_of from) 0 0 ≡ 91
+    first_is = first_byte ∙ get_or_from_slice_get from.text.now from.at 91 0 opens.is
 
-  module _ (sound : Sound s from) (byte : get_or s from.at 0 ≡ 91) where
-    pub list_empty : get_or s (from.at + 1) 0 ≡ 93 → (cs cs' : List Int) (n : Int) → n ≡ int_zero → cs' ≡ set cs from.used n
-        → ValueRead (list t) s from (record { at = from.at + 1 + 1; used = from.used + 1 }) cs cs'
-    list_empty close cs cs' n none is = phrase_read (value_text (list t)) (size (list t)) (cells (list t)) (size_short (list t)) s from sound _ cs _ [] 2
-        (empty_read (value_text t) rest_of (value_separate t) (first_byte ∙ byte) (second_byte ∙ close)) (omega arith) (omega arith)
-        (is ∙ ap (λ m. set cs from.used m) (none ∙ count_none))
+    second_is : get_or (rest_of from) 1 0 ≡ get_or at.text.now at.at 0
+    second_is = byte_behind from at 1 opens.same_text opens.end
 
-    pub list_begins : (get_or s (from.at + 1) 0 ≡ 93 → ⊥) → (cs : List Int) (n : Int) → n ≡ int_zero
-        → ListSoFar t s from (record { at = from.at + 1; used = from.used + 1 }) n cs cs
-    list_begins other cs n none = record {
+    list_begins : (to : Reader) (n : Int) → n ≡ int_zero → (slice_get at.text.now at.at ≡ Some 93 → ⊥) → Advanced at to 0 [] → ListSoFar t true from to header n
+    list_begins to n none other moved = record {
+      at = at;
+      opens = opens;
+      elements = [];
+      long = 0;
+      is = just_opened (value_text t) (rest_of from) first_is (λ e. other (byte_is at.text.now at.at 92 (sym second_is ∙ e)));
+      moved = moved;
+      counted = none ∙ count_none;
+    }
+
+    list_empty : (to : Reader) (n : Int) → n ≡ int_zero → ByteRead 93 at to → ListSoFar t false from to header n
+    list_empty to n none closes = record {
+      at = at;
+      opens = opens;
       elements = [];
       long = 1;
-      opened = just_opened (value_text t) rest_of (first_byte ∙ byte) (λ e. other (sym second_byte ∙ e));
-      end = refl;
-      used = omega arith;
+      is = empty_read (value_text t) (rest_of from) (value_separate t) first_is (second_is ∙ get_or_from_slice_get at.text.now at.at 93 0 closes.is);
+      moved = closes.moved;
       counted = none ∙ count_none;
-      stored = refl;
-      start = sound;
     }
 
-  module _ (to : Reached) (n : Int) (cs cs' : List Int) (so_far : ListSoFar t s from to n cs cs') where
-    later : drop so_far.long rest_of ≡ drop to.at s
-    later = past_it s from.at to.at so_far.long so_far.end
+    pub list_opened : (to : Reader) (n : Int) (closed : Bool) → n ≡ int_zero → MatchBool closed (ByteRead 93 at to) ((slice_get at.text.now at.at ≡ Some 93 → ⊥) × Advanced at to 0 [])
+        → ListSoFar t (not closed) from to header n
+    list_opened to n true none closes = list_empty to n none closes
+    list_opened to n false none other = list_begins to n none other.0 other.1
 
-    open_long : length (each_text (value_text t) so_far.elements) + 1 ≡ so_far.long
-    open_long = omega (arith, ap length so_far.opened.is, length-take-le so_far.long rest_of so_far.opened.within)
+  -- the length is stored
+  whole_list : (to end : Reader) (header : ℕ) (n : Int) → ListSoFar t false from to header n → Stores header n to end → ValueRead (list t) from end
+  whole_list to end header n all store =
+      let row = flat_map (cells t) all.elements in
+      record {
+        value = all.elements;
+        long = 1 + all.long;
+        is = all.is;
+        moved = record {
+          same_text = store.same_text ∙ all.moved.same_text ∙ all.opens.same_text;
+          same_reference = store.same_reference ∙ all.moved.same_reference ∙ all.opens.same_reference;
+          end = omega (arith, store.same_place, all.moved.end, all.opens.end);
+          used = omega (arith, store.same_used, all.moved.used, all.opens.used);
+          stored = store.stored
+              ∙ ap₂ (λ (i : ℕ) (k : List Int). set k i n) all.opens.header_is (
+              all.moved.stored ∙ ap₂ (λ (k : List Int) (i : ℕ). sets k i row) all.opens.stored all.opens.used
+              )
+              ∙ ap (λ m. set (sets from.cells.now (from.used + 1) row) from.used m) all.counted ∙ set_first row from.cells.now from.used (count (length all.elements));
+        };
+      }
 
-    pub so_far_sound : Sound s to
-    so_far_sound = record {
-      within = omega (arith, so_far.end, so_far.opened.within, length-drop from.at s, so_far.start.within);
-      few = omega (arith, so_far.end, so_far.used, each_short (value_text t) (size t) (size_short t) so_far.elements, open_long, so_far.start.few);
-    }
+  pub list_read : (to end : Reader) (header : ℕ) (n : Int) (more : Bool) → more ≡ false → ListSoFar t more from to header n → Stores header n to end → ValueRead (list t) from end
+  list_read to end header n more none all store = whole_list to end header n (subst (λ b. ListSoFar t b from to header n) none all) store
 
-    stops : (m : ℕ) → NoElement (value_text t) (drop to.at s) m → (p : ℕ) → p ≡ to.at + m → ValueStops (list t) s from.at p
+  module _ (to : Reader) (header : ℕ) (n : Int) (more : Bool) (some : more ≡ true) (kept : ListSoFar t more from to header n) where
+    so_far : ListSoFar t true from to header n
+    so_far = subst (λ b. ListSoFar t b from to header n) some kept
+
+    end_is : to.at ≡ from.at + (1 + so_far.long)
+    end_is = omega (arith, so_far.moved.end, so_far.opens.end)
+
+    later : drop (1 + so_far.long) (rest_of from) ≡ rest_of to
+    later = rest_behind from to (1 + so_far.long) (so_far.moved.same_text ∙ so_far.opens.same_text) end_is
+
+    stops : (m : ℕ) → NoElement (value_text t) (rest_of to) m → (p : ℕ) → p ≡ to.at + m → ValueStops (list t) from p
     stops m none p e = record {
-      long = so_far.long + m;
-      end = omega (arith, e, so_far.end);
-      is = list_stops (value_text t) (value_separate t) (drop to.at s) m none rest_of so_far.elements so_far.long so_far.opened later;
+      long = 1 + so_far.long + m;
+      end = omega (arith, e, end_is);
+      is = list_stops (value_text t) (value_separate t) (rest_of to) m none (rest_of from) so_far.elements (1 + so_far.long) so_far.is later;
     }
 
-    pub list_stops_in : (p : ℕ) → ValueStops t s to.at p → ValueStops (list t) s from.at p
-    list_stops_in p stop = stops stop.long (inl stop.is) p stop.end
+    pub stops_in_element : (p : ℕ) → ValueStops t to p → ValueStops (list t) from p
+    stops_in_element p stop = stops stop.long (inl stop.is) p stop.end
 
-    module _ (end : Reached) (cs'' : List Int) (reads : ValueRead t s to end cs' cs'') where
-      at_sign : get_or (drop to.at s) reads.long 0 ≡ get_or s end.at 0
-      at_sign = byte_past s to.at end.at reads.long reads.end
+    module _ (end : Reader) (reads : ValueRead t to end) where
+      at_sign : get_or (rest_of to) reads.long 0 ≡ get_or end.text.now end.at 0
+      at_sign = next_byte _ _ to end end reads
 
-      pub list_stops_sign : (get_or s end.at 0 ≡ 44 → ⊥) → (get_or s end.at 0 ≡ 93 → ⊥) → ValueStops (list t) s from.at end.at
-      list_stops_sign p q = stops reads.long (inr (reads.value, reads.is, (λ e. p (sym at_sign ∙ e)), (λ e. q (sym at_sign ∙ e)))) end.at reads.end
+      pub no_sign : (p : ℕ) → NoSign end p → ValueStops (list t) from p
+      no_sign p miss = stops reads.long (inr (reads.value, reads.is, (λ e. miss.no_comma (sym at_sign ∙ e)), (λ e. miss.no_bracket (sym at_sign ∙ e)))) p (miss.end ∙ reads.moved.end)
 
-      module _ (last : Bool) (sign : get_or s end.at 0 ≡ sign_of last) where
-        sign_some : (b : Bool) → sign_of b ≡ 0 → ⊥
-        sign_some true e = omega arith
-        sign_some false e = omega arith
-
-        pub sign_room : end.at < length s
-        sign_room = byte_within s end.at (λ z. sign_some last (sym sign ∙ z))
-
-        element : ElementIs (value_text t) (drop so_far.long rest_of) reads.value last (reads.long + 1)
-        element = subst (λ r. ElementIs (value_text t) r reads.value last (reads.long + 1)) (sym later) (
+      module _ (sign : Sign) (behind : Reader) (byte : ByteRead (byte_of sign) end behind) (n' : Int) (one_more : n' ≡ int_sum n int_one) where
+        element : ElementIs (value_text t) (drop (1 + so_far.long) (rest_of from)) reads.value sign (reads.long + 1)
+        element =
+            let within = next_within _ _ to end behind reads (byte_of sign) byte in
+            subst (λ r. ElementIs (value_text t) r reads.value sign (reads.long + 1)) (sym later) (
             record {
-              within = omega (arith, sign_room, length-drop to.at s, reads.end);
-              is = take_more (drop to.at s) reads.long 0 (omega (arith, sign_room, length-drop to.at s, reads.end))
-                  ∙ ap₂ (λ (p : List ℕ) (b : ℕ). p ++ (b ∷ [])) reads.is.is (at_sign ∙ sign);
+              within = omega (arith, within);
+              is = take_more (rest_of to) reads.long 0 within
+                  ∙ ap₂ (λ (p : List ℕ) (b : ℕ). p ++ (b ∷ [])) reads.is.is (next_is _ _ to end behind reads (byte_of sign) byte);
             }
             )
 
-        abbrev all : List (Val t)
-        all = so_far.elements ++ (reads.value ∷ [])
+        with_it : (Is : List (Val t) → ℕ → Type 0) → Is (so_far.elements ++ (reads.value ∷ [])) (1 + so_far.long + (reads.long + 1)) → Elements t Is from behind header n'
+        with_it Is is = record {
+          at = so_far.at;
+          opens = so_far.opens;
+          elements = so_far.elements ++ (reads.value ∷ []);
+          long = so_far.long + (reads.long + 1);
+          is = let so : 1 + so_far.long + (reads.long + 1) ≡ 1 + (so_far.long + (reads.long + 1)) = omega arith in subst (Is (so_far.elements ++ (reads.value ∷ []))) so is;
+          moved = subst (Advanced so_far.at behind (so_far.long + (reads.long + 1))) (sym (each_push (cells t) so_far.elements reads.value)) (
+              advanced_then so_far.at to so_far.long _ so_far.moved behind (reads.long + 1) (cells t reads.value) (past_it _ _ to end behind reads (byte_of sign) byte)
+              );
+          counted = one_more ∙ ap (λ m. int_sum m int_one) so_far.counted ∙ count_more (length so_far.elements) ∙ ap count
+              (sym (length_push so_far.elements reads.value));
+        }
 
-        all_end : end.at + 1 ≡ from.at + (so_far.long + (reads.long + 1))
-        all_end = omega (arith, reads.end, so_far.end)
+      -- a comma is behind it, or the bracket
+      list_goes_on : (behind : Reader) → ByteRead 44 end behind → (n' : Int) → n' ≡ int_sum n int_one → ListSoFar t true from behind header n'
+      list_goes_on behind byte n' one_more = with_it Comma behind byte n' one_more _
+          (element_opens (value_text t) (value_separate t) (rest_of from) so_far.elements (1 + so_far.long) so_far.is reads.value (reads.long + 1)
+          (element Comma behind byte n' one_more))
 
-        all-used : end.used ≡ from.used + size (list t) all
-        all-used = omega (arith, reads.used, so_far.used, sum_push (size t) so_far.elements reads.value)
+      list_closes : (behind : Reader) → ByteRead 93 end behind → (n' : Int) → n' ≡ int_sum n int_one → ListSoFar t false from behind header n'
+      list_closes behind byte n' one_more = with_it Bracket behind byte n' one_more _
+          (element_closes (value_text t) (value_separate t) (rest_of from) so_far.elements (1 + so_far.long) so_far.is reads.value (reads.long + 1)
+          (element Bracket behind byte n' one_more))
 
-        all_stored : cs'' ≡ sets cs (from.used + 1) (flat_map (cells t) all)
-        all_stored =
-            let at : to.used ≡ from.used + 1 + length (flat_map (cells t) so_far.elements) = omega (arith, so_far.used, each_cells t so_far.elements) in
-            reads.stored ∙ ap₂ (λ (k : List Int) (i : ℕ). sets k i (cells t reads.value)) so_far.stored at
-            ∙ sym (sets_append (flat_map (cells t) so_far.elements) (cells t reads.value) cs (from.used + 1))
-            ∙ ap (sets cs (from.used + 1)) (sym (each_push (cells t) so_far.elements reads.value))
-
-        module _ (n' : Int) (one_more : n' ≡ int_sum n int_one) where
-          all-counted : n' ≡ count (length all)
-          all-counted = one_more ∙ ap (λ m. int_sum m int_one) so_far.counted ∙ count_more (length so_far.elements) ∙ ap count
-              (sym (length_push so_far.elements reads.value))
-
-          pub list_goes_on : last ≡ false → ListSoFar t s from (record { at = end.at + 1; used = end.used }) n' cs cs''
-          list_goes_on comma = record {
-            elements = all;
-            long = so_far.long + (reads.long + 1);
-            opened = element_opens (value_text t) (value_separate t) rest_of so_far.elements so_far.long so_far.opened reads.value (reads.long + 1)
-                (subst (λ b. ElementIs (value_text t) (drop so_far.long rest_of) reads.value b (reads.long + 1)) comma element);
-            end = all_end;
-            used = all-used;
-            counted = all-counted;
-            stored = all_stored;
-            start = so_far.start;
-          }
-
-          pub list_ends : last ≡ true → (cs''' : List Int) → cs''' ≡ set cs'' from.used n' → ValueRead (list t) s from
-              (record { at = end.at + 1; used = end.used }) cs cs'''
-          list_ends bracket cs''' is = phrase_read (value_text (list t)) (size (list t)) (cells (list t)) (size_short (list t)) s from so_far.start _ cs _ all
-              (so_far.long + (reads.long + 1))
-              (element_closes (value_text t) (value_separate t) rest_of so_far.elements so_far.long so_far.opened reads.value (reads.long + 1)
-              (subst (λ b. ElementIs (value_text t) (drop so_far.long rest_of) reads.value b (reads.long + 1)) bracket element))
-              all_end all-used
-              (is ∙ ap₂ (λ (k : List Int) (m : Int). set k from.used m) all_stored all-counted ∙ set_first (flat_map (cells t) all) cs from.used
-              (count (length all)))
+      pub list_steps : (behind : Reader) (sign : Sign) (on : Bool) → on ≡ sameb the_type sign Comma → ByteRead (byte_of sign) end behind → (n' : Int) → n' ≡ int_sum n int_one
+          → ListSoFar t on from behind header n'
+      list_steps behind Comma on same byte n' one_more = subst (λ b. ListSoFar t b from behind header n') (sym same) (list_goes_on behind byte n' one_more)
+      list_steps behind Bracket on same byte n' one_more = subst (λ b. ListSoFar t b from behind header n') (sym same) (list_closes behind byte n' one_more)

@@ -1,242 +1,237 @@
 -- Phrases from a place on, made of smaller ones.
-use Rattle.std.proofs.Common.{◌≡◌, ℕ, zero, suc, ◌+◌, ◌-◌, ◌<◌, ◌≤◌, List, [], ◌∷◌, ◌++◌, length, get_or, take, drop, IsErrAnd, Result, sym, refl, ap, ◌∙◌, subst, ap₂, ⊎_elim, append_assoc, append-nil, arith, length-drop, MatchResult}
+use Rattle.std.proofs.Common.{◌≡◌, ℕ, zero, suc, ◌+◌, ◌<◌, ◌≤◌, List, [], ◌∷◌, ◌++◌, length, get_or, take, drop, IsErrAnd, Some, Result, sym, refl, ap, ◌∙◌, subst, ap₂, ⊎_elim, append_assoc, append-nil, arith, length-append, length-drop, MatchResult}
 use lib.Seq.{sets}
-use Rattle.std.proofs.lemmas.List.{take_rest, drop-drop, get_or-drop, get_or_past, length-take-le}
+use Rattle.std.specs.List.{slice_get}
+use Rattle.std.proofs.lemmas.List.{drop-drop, get_or-drop, get_or_past}
+use Rattle.std.proofs.lemmas.Option.{slice_get_within, slice_get-get_or, get_or_from_slice_get}
 use Rattle.std.proofs.lemmas.Bool.{cases_lt}
 use Rattle.std.proofs.lemmas.Result.{err_from_is_err_and}
 use Rattle.monoid.specs.declared.int.Int.{Int}
 use Rattle.types.specs.Types.{Ty, pair}
-use Rattle.lang.specs.Values.{Val, size}
+use Rattle.lang.specs.Values.{Val}
 use Rattle.lang.specs.Layout.{cells}
-use Rattle.texts.specs.declared.phrase.Reached.{Reached}
+use Rattle.texts.specs.declared.reader.Reader.{Reader}
 use Rattle.values.specs.Reading.{ReadsFront, StopsAt}
 use Rattle.texts.specs.Texts.{pair_text, value_text}
-use Rattle.texts.specs.Phrases.{closed_text, Mark, Sound, PhraseRead, PhraseStops, ValueRead, ValueStops, HalfRead, HalfStops}
-use Rattle.values.proofs.Separate.{PrefixFree, NoDigit, free_reads}
-use Rattle.texts.proofs.Sequences.{stops_first, stops_second, reads_both, closed_free, closed_stops, closed_reads, closed_misses}
+use Rattle.texts.specs.Phrases.{Advanced, ByteRead, NoByte, PhraseRead, PhraseStops}
+use Rattle.values.proofs.Separate.{PrefixFree, NoDigit, free_reads, same_head}
+use Rattle.texts.proofs.Sequences.{closed_text, stops_first, stops_second, reads_both, closed_free, closed_stops, closed_reads, closed_misses}
 use Rattle.texts.proofs.Stores.{sets_append}
-use Rattle.texts.proofs.Types.{value_separate, size_short, cells-size, some_value, comma}
+use Rattle.texts.proofs.Types.{value_separate, some_value, comma, bracket}
 
--- a byte that is not 0 lies within
-pub byte_within : (s : List ℕ) (i : ℕ) → (get_or s i 0 ≡ 0 → ⊥) → i < length s
-byte_within s i some = ⊎_elim (λ (l : i < length s). l) (λ (l : length s ≤ i). absurd (some (get_or_past s i 0 l))) (cases_lt i (length s))
+-- a value of the type t
+abbrev pub ValueRead : Ty → Reader → Reader → Type 0
+ValueRead t from to = PhraseRead (value_text t) (cells t) from to
 
-pub byte_there : (s : List ℕ) (i c : ℕ) → get_or s i 0 ≡ suc c → i < length s
-byte_there s i c e = byte_within s i (λ z. absurd (omega (arith, sym e ∙ z)))
-
--- what stands past a phrase
-pub past_it : (s : List ℕ) (at to n : ℕ) → to ≡ at + n → drop n (drop at s) ≡ drop to s
-past_it s at to n e = drop-drop n at s ∙ ap (λ i. drop i s) (sym e)
-
-pub byte_past : (s : List ℕ) (at to n : ℕ) → to ≡ at + n → get_or (drop at s) n 0 ≡ get_or s to 0
-byte_past s at to n e = get_or-drop at s n 0 ∙ ap (λ i. get_or s i 0) (sym e)
+abbrev pub ValueStops : Ty → Reader → ℕ → Type 0
+ValueStops t from p = PhraseStops (value_text t) from p
 
 -- the exit of a `?`
 pub hands_on : {T F : Type 0} (r : Result T F) (A : T → Type 0) (Q : F → Type 0) (f : F) → IsErrAnd r (λ y. y ≡ f) → Q f → MatchResult r A Q
 hands_on r A Q f e q = let p = err_from_is_err_and r e in subst (λ t. MatchResult t A Q) (sym p.1) (subst Q (sym p.2) q)
 
--- ---- one phrase
-module _ {X : Type 0} (text : X → List ℕ) (big : X → ℕ) (row : X → List Int) (short : (x : X) → big x ≤ length (text x)) (s : List ℕ) (from : Reached)
-    (sound : Sound s from) where
-  pub front_long : (x : X) (n : ℕ) → ReadsFront text (drop from.at s) x n → length (text x) ≡ n
-  front_long x n reads = ap length (sym reads.is) ∙ length-take-le n (drop from.at s) reads.longest.within
+-- ---- what stands at a place
+abbrev pub rest_of : Reader → List ℕ
+rest_of p = drop p.at p.text.now
 
-  pub phrase_read : (to : Reached) (cs cs' : List Int) (x : X) (n : ℕ) → ReadsFront text (drop from.at s) x n → to.at ≡ from.at + n
-      → to.used ≡ from.used + big x
-      → cs' ≡ sets cs from.used (row x) → PhraseRead text big row s from to cs cs'
-  phrase_read to cs cs' x n reads end used stored = record {
-    value = x;
-    long = n;
-    is = reads;
-    end = end;
-    used = used;
-    stored = stored;
-    sound = record {
-      within = omega (arith, end, reads.longest.within, length-drop from.at s, sound.within);
-      few = omega (arith, end, used, short x, front_long x n reads, sound.few);
-    };
+-- a byte that is not 0 lies within
+pub byte_is : (s : List ℕ) (i c : ℕ) → get_or s i 0 ≡ suc c → slice_get s i ≡ Some (suc c)
+byte_is s i c e = ⊎_elim
+    (λ (l : i < length s). slice_get-get_or s i 0 l ∙ ap Some e)
+    (λ (l : length s ≤ i). absurd (omega (arith, sym e ∙ get_or_past s i 0 l)))
+    (cases_lt i (length s))
+
+first_get : (s : List ℕ) (i : ℕ) → slice_get (drop i s) 0 ≡ slice_get s i
+first_get s zero = refl
+first_get [] (suc i) = refl
+first_get (b ∷ s) (suc i) = first_get s i
+
+module _ (p q : Reader) (n : ℕ) (same_text : q.text.now ≡ p.text.now) (end : q.at ≡ p.at + n) where
+  pub rest_behind : drop n (rest_of p) ≡ rest_of q
+  rest_behind = drop-drop n p.at p.text.now ∙ ap₂ (λ (i : ℕ) (s : List ℕ). drop i s) (sym end) (sym same_text)
+
+  pub byte_behind : get_or (rest_of p) n 0 ≡ get_or q.text.now q.at 0
+  byte_behind = get_or-drop p.at p.text.now n 0 ∙ ap₂ (λ (i : ℕ) (s : List ℕ). get_or s i 0) (sym end) (sym same_text)
+
+module _ (p q : Reader) (n : ℕ) (row : List Int) (moved : Advanced p q n row) where
+  pub advanced_then : (r : Reader) (m : ℕ) (row' : List Int) → Advanced q r m row' → Advanced p r (n + m) (row ++ row')
+  advanced_then r m row' then = record {
+    same_text = then.same_text ∙ moved.same_text;
+    same_reference = then.same_reference ∙ moved.same_reference;
+    end = omega (arith, moved.end, then.end);
+    used = omega (arith, moved.used, then.used, length-append row row');
+    stored = then.stored ∙ ap₂ (λ (k : List Int) (i : ℕ). sets k i row') moved.stored moved.used ∙ sym (sets_append row row' p.cells.now p.used);
   }
 
--- as the code lends the rest of s
-module _ {X : Type 0} (text : X → List ℕ) (s : List ℕ) (at n : ℕ) where
-  pub lent_reads : (x : X) → ReadsFront text (take (length s - at) (drop at s)) x n → ReadsFront text (drop at s) x n
-  lent_reads x reads = rw (take_rest s at) at reads
+-- ---- a phrase, and the byte behind it
+module _ {X : Type 0} (text : X → List ℕ) (row : X → List Int) (p q r : Reader) (reads : PhraseRead text row p q) where
+  pub next_byte : get_or (rest_of p) reads.long 0 ≡ get_or q.text.now q.at 0
+  next_byte = byte_behind p q reads.long reads.moved.same_text reads.moved.end
 
-  pub lent_stops : StopsAt text (take (length s - at) (drop at s)) n → PhraseStops text s at (at + n)
-  lent_stops stop = record { long = n; end = refl; is = rw (take_rest s at) at stop }
+  module _ (c : ℕ) (byte : ByteRead c q r) where
+    pub next_within : reads.long < length (rest_of p)
+    next_within = omega (arith, slice_get_within q.text.now q.at c byte.is, length-drop p.at p.text.now, reads.moved.end, ap length reads.moved.same_text)
+
+    pub next_is : get_or (rest_of p) reads.long 0 ≡ c
+    next_is = next_byte ∙ get_or_from_slice_get q.text.now q.at c 0 byte.is
+
+    pub past_it : Advanced p r (reads.long + 1) (row reads.value)
+    past_it = rw append-nil at (advanced_then p q reads.long (row reads.value) reads.moved r 1 [] byte.moved)
+
+-- ---- one phrase behind another, for a text h made of f and g
+module _ {X Y Z : Type 0} (f : X → List ℕ) (g : Y → List ℕ) (h : Z → List ℕ) (fst : Z → X) (snd : Z → Y) (mk : X → Y → Z)
+    (splits : (z : Z) → h z ≡ f (fst z) ++ g (snd z)) (makes : (x : X) (y : Y) → h (mk x y) ≡ f x ++ g y) (p : Reader) where
+  first_stops : (n : ℕ) → Y → PhraseStops f p n → PhraseStops h p n
+  first_stops n y stop = record { long = stop.long; end = stop.end; is = stops_first f g h fst snd mk splits makes (rest_of p) stop.long y stop.is }
+
+  module _ (free : PrefixFree f) (row : X → List Int) (q : Reader) (reads : PhraseRead f row p q) where
+    second_stops : (n : ℕ) → PhraseStops g q n → PhraseStops h p n
+    second_stops n stop = record {
+      long = reads.long + stop.long;
+      end = omega (arith, stop.end, reads.moved.end);
+      is = stops_second f g h fst snd mk splits makes (rest_of p) free reads.value reads.long reads.is stop.long
+          (subst (λ r. StopsAt g r stop.long) (sym (rest_behind p q reads.long reads.moved.same_text reads.moved.end)) stop.is);
+    }
+
+    both_read : (row' : Y → List Int) (row'' : Z → List Int) → ((x : X) (y : Y) → row'' (mk x y) ≡ row x ++ row' y)
+        → (r : Reader) → PhraseRead g row' q r → PhraseRead h row'' p r
+    both_read row' row'' joins r second = record {
+      value = mk reads.value second.value;
+      long = reads.long + second.long;
+      is = reads_both f g h fst snd mk splits makes (rest_of p) free reads.value reads.long reads.is second.value second.long
+          (subst (λ t. ReadsFront g t second.value second.long) (sym (rest_behind p q reads.long reads.moved.same_text reads.moved.end)) second.is);
+      moved = subst (λ cs. Advanced p r (reads.long + second.long) cs) (sym (joins reads.value second.value))
+          (advanced_then p q reads.long (row reads.value) reads.moved r second.long (row' second.value) second.moved);
+    }
 
 -- ---- a byte
 abbrev byte_text : ℕ → Unit {0} → List ℕ
 byte_text c u = c ∷ []
 
+abbrev no_cells : {X : Type 0} → X → List Int
+no_cells x = []
+
 byte_free : (c : ℕ) → PrefixFree (byte_text c)
 byte_free c u v d r e = omega (arith, ap length e)
 
-first-is : (r : List ℕ) (c : ℕ) → get_or r 0 0 ≡ suc c → take 1 r ≡ suc c ∷ []
-first-is [] c e = absurd (omega (arith, e))
-first-is (b ∷ r) c e = ap (λ d. d ∷ []) e
+first_is : (r : List ℕ) (c : ℕ) → slice_get r 0 ≡ Some c → take 1 r ≡ c ∷ []
+first_is [] c e = cc
+first_is (b ∷ r) c e = cc
 
-byte_reads : (r : List ℕ) (c : ℕ) → get_or r 0 0 ≡ suc c → ReadsFront (byte_text (suc c)) r tt 1
-byte_reads r c e = free_reads (byte_text (suc c)) (byte_free (suc c)) r tt 1 (omega (arith, byte_there r 0 c e)) (first-is r c e)
+byte_read : (c : ℕ) (p q : Reader) → ByteRead c p q → PhraseRead (byte_text c) no_cells p q
+byte_read c p q byte =
+    let is : slice_get (rest_of p) 0 ≡ Some c = first_get p.text.now p.at ∙ byte.is in
+    record {
+      value = tt;
+      long = 1;
+      is = free_reads (byte_text c) (byte_free c) (rest_of p) tt 1 (slice_get_within (rest_of p) 0 c is) (first_is (rest_of p) c is);
+      moved = byte.moved;
+    }
 
-byte_misses : (r : List ℕ) (c : ℕ) → (get_or r 0 0 ≡ suc c → ⊥) → StopsAt (byte_text (suc c)) r 0
-byte_misses r c other = record {
-  none = λ u k e. other (first r k [] (e ∙ sym (append-nil (suc c ∷ []))));
-  longest = record {
-    within = omega arith;
-    begins = record { value = tt; rest = suc c ∷ []; is = refl };
-    beyond = λ k past fits b. other
-        (start r k past fits b.rest b.is);
+byte_misses : (c : ℕ) (p : Reader) (n : ℕ) → NoByte c p n → PhraseStops (byte_text c) p n
+byte_misses c p n miss = record {
+  long = 0;
+  end = omega (arith, miss.end);
+  is = record {
+    none = λ u k e. no (first (rest_of p) k [] e);
+    longest = record { within = omega arith; begins = record { value = tt; rest = c ∷ []; is = refl }; beyond = λ k past fits b. no (start (rest_of p) k past fits b.rest b.is) };
   };
 }
   where
-    first : (r : List ℕ) (k : ℕ) (t : List ℕ) → take k r ≡ (suc c ∷ []) ++ t → get_or r 0 0 ≡ suc c
+    no : slice_get (rest_of p) 0 ≡ Some c → ⊥
+    no e = miss.other (sym (first_get p.text.now p.at) ∙ e)
+
+    first : (r : List ℕ) (k : ℕ) (t : List ℕ) → take k r ≡ c ∷ t → slice_get r 0 ≡ Some c
     first r zero t e = absurd (omega (arith, ap length e))
     first [] (suc k) t e = absurd (omega (arith, ap length e))
-    first (b ∷ r) (suc k) t e = ap (λ u. get_or u 0 0) e
+    first (b ∷ r) (suc k) t e = ap Some (same_head e)
 
-    start : (r : List ℕ) (k : ℕ) → 0 < k → k ≤ length r → (t : List ℕ) → suc c ∷ [] ≡ take k r ++ t → get_or r 0 0 ≡ suc c
+    start : (r : List ℕ) (k : ℕ) → 0 < k → k ≤ length r → (t : List ℕ) → c ∷ [] ≡ take k r ++ t → slice_get r 0 ≡ Some c
     start r zero past fits t e = absurd (omega arith)
     start [] (suc k) past fits t e = absurd (omega arith)
-    start (b ∷ r) (suc k) past fits t e = sym (ap (λ u. get_or u 0 0) e)
+    start (b ∷ r) (suc k) past fits t e = ap Some (sym (same_head e))
 
--- ---- a half of a pair
-pub mark-plain : (c : ℕ) → Mark c → NoDigit c
-mark-plain c mark d = ⊎_elim (λ (e : c ≡ 44). omega (arith, d.0)) (λ (e : c ≡ 41). omega (arith, d.0)) mark
-
-mark_some : (c : ℕ) → Mark c → c ≡ 0 → ⊥
-mark_some c mark z = ⊎_elim (λ (e : c ≡ 44). omega arith) (λ (e : c ≡ 41). omega arith) mark
-
-module _ (t : Ty) (c : ℕ) (mark : Mark c) (s : List ℕ) (from : Reached) where
-  module _ (end : Reached) (cs cs' : List Int) (reads : ValueRead t s from end cs cs') where
-    at_mark : get_or (drop from.at s) reads.long 0 ≡ get_or s end.at 0
-    at_mark = byte_past s from.at end.at reads.long reads.end
-
-    pub half_room : c ≡ get_or s end.at 0 → end.at < length s
-    half_room byte = byte_within s end.at (λ z. mark_some c mark (byte ∙ z))
-
-    pub half_read : c ≡ get_or s end.at 0 → HalfRead t c s from (record { at = end.at + 1; used = end.used }) cs cs'
-    half_read byte =
-        let room : end.at < length s = half_room byte in
-        record {
-          value = reads.value;
-          long = reads.long + 1;
-          is = closed_reads (value_text t) (value_separate t) c (mark-plain c mark) (drop from.at s) reads.value reads.long reads.is
-              (omega (arith, length-drop from.at s, reads.end)) (at_mark ∙ sym byte);
-          end = omega (arith, reads.end);
-          used = reads.used;
-          stored = reads.stored;
-          sound = record { within = omega arith; few = omega (arith, reads.sound.few) };
-        }
-
-    pub half_misses : (c ≡ get_or s end.at 0 → ⊥) → HalfStops t c s from.at end.at
-    half_misses other = record {
-      long = reads.long;
-      end = reads.end;
-      is = closed_misses (value_text t) (value_separate t) c (mark-plain c mark) (drop from.at s) reads.value reads.long reads.is
-          (λ e. other (sym e ∙ at_mark));
-    }
-
-  pub half_stops : (p : ℕ) → ValueStops t s from.at p → HalfStops t c s from.at p
-  half_stops p stop = record {
+-- ---- a half of a pair, with the byte behind it
+module _ (t : Ty) (c : ℕ) (plain : NoDigit (suc c)) (p : Reader) where
+  half_stops : (n : ℕ) → ValueStops t p n → PhraseStops (closed_text (value_text t) (suc c)) p n
+  half_stops n stop = record {
     long = stop.long;
     end = stop.end;
-    is = closed_stops (value_text t) (value_separate t) c (mark-plain c mark) (drop from.at s) stop.long stop.is;
+    is = closed_stops (value_text t) (value_separate t) (suc c) plain (rest_of p) stop.long stop.is;
   }
+
+  module _ (q : Reader) (reads : ValueRead t p q) where
+    half_read : (r : Reader) → ByteRead (suc c) q r → PhraseRead (closed_text (value_text t) (suc c)) (cells t) p r
+    half_read r byte = record {
+      value = reads.value;
+      long = reads.long + 1;
+      is = closed_reads (value_text t) (value_separate t) (suc c) plain (rest_of p) reads.value reads.long reads.is
+          (next_within _ _ p q r reads (suc c) byte) (next_is _ _ p q r reads (suc c) byte);
+      moved = past_it _ _ p q r reads (suc c) byte;
+    }
+
+    half_misses : (n : ℕ) → NoByte (suc c) q n → PhraseStops (closed_text (value_text t) (suc c)) p n
+    half_misses n miss = record {
+      long = reads.long;
+      end = miss.end ∙ reads.moved.end;
+      is = closed_misses (value_text t) (value_separate t) (suc c) plain (rest_of p) reads.value reads.long reads.is
+          (λ e. miss.other (byte_is q.text.now q.at c (sym (next_byte _ _ p q q reads) ∙ e)));
+    }
 
 -- ---- a pair
 module _ (a b : Ty) where
   abbrev inner : Val a × Val b → List ℕ
   inner v = closed_text (value_text a) 44 v.0 ++ closed_text (value_text b) 41 v.1
 
-  opened_pair : (v : Val a × Val b) → pair_text (value_text a) (value_text b) v ≡ (40 ∷ []) ++ inner v
-  opened_pair v = ap (λ r. 40 ∷ r) (sym (append_assoc (value_text a v.0) (44 ∷ []) (value_text b v.1 ++ (41 ∷ []))))
+  abbrev pairs : Val a × Val b → List ℕ
+  pairs = pair_text (value_text a) (value_text b)
+
+  led : (v : Val a × Val b) → pairs v ≡ (40 ∷ []) ++ inner v
+  led v = ap (λ r. 40 ∷ r) (sym (append_assoc (value_text a v.0) (44 ∷ []) (value_text b v.1 ++ (41 ∷ []))))
 
   left_free : PrefixFree (closed_text (value_text a) 44)
   left_free = closed_free (value_text a) (value_separate a) 44 comma
 
-  module _ (r : List ℕ) where
-    pub pair_unopened : (get_or r 0 0 ≡ 40 → ⊥) → StopsAt (value_text (pair a b)) r 0
-    pair_unopened other =
-        stops_first (byte_text 40) inner (value_text (pair a b)) (λ _. tt) (λ v. v) (λ _ v. v) opened_pair (λ _. opened_pair) r 0
-        (some_value (pair a b)) (byte_misses r 39 other)
+  module _ (p : Reader) where
+    pub unopened_pair : (n : ℕ) → NoByte 40 p n → ValueStops (pair a b) p n
+    unopened_pair n miss = first_stops (byte_text 40) inner pairs (λ _. tt) (λ v. v) (λ _ v. v) led (λ _. led) p n (some_value (pair a b)) (byte_misses 40 p n miss)
 
-    module _ (opens : get_or r 0 0 ≡ 40) where
-      led_stops : (m : ℕ) → StopsAt inner (drop 1 r) m → StopsAt (value_text (pair a b)) r (1 + m)
-      led_stops m stop =
-          stops_second (byte_text 40) inner (value_text (pair a b)) (λ _. tt) (λ v. v) (λ _ v. v) opened_pair (λ _. opened_pair) r (byte_free 40) tt 1
-          (byte_reads r 39 opens) m stop
+    module _ (q : Reader) (opens : ByteRead 40 p q) where
+      behind : (n : ℕ) → PhraseStops inner q n → ValueStops (pair a b) p n
+      behind n stop = second_stops (byte_text 40) inner pairs (λ _. tt) (λ v. v) (λ _ v. v) led (λ _. led) p (byte_free 40) no_cells q (byte_read 40 p q opens) n stop
 
-      led_reads : (v : Val a × Val b) (m : ℕ) → ReadsFront inner (drop 1 r) v m → ReadsFront (value_text (pair a b)) r v (1 + m)
-      led_reads v m reads =
-          reads_both (byte_text 40) inner (value_text (pair a b)) (λ _. tt) (λ v. v) (λ _ v. v) opened_pair (λ _. opened_pair) r (byte_free 40) tt 1
-          (byte_reads r 39 opens) v m reads
+      in_left : (n : ℕ) → PhraseStops (closed_text (value_text a) 44) q n → ValueStops (pair a b) p n
+      in_left n stop = behind n (
+          first_stops (closed_text (value_text a) 44) (closed_text (value_text b) 41) inner (λ v. v.0) (λ v. v.1) (λ x y. (x, y))
+          (λ v. refl) (λ x y. refl) q n (some_value b) stop
+          )
 
-  module _ (r : List ℕ) where
-    inner_first : (n : ℕ) → StopsAt (closed_text (value_text a) 44) r n → StopsAt inner r n
-    inner_first n stop = stops_first (closed_text (value_text a) 44) (closed_text (value_text b) 41) inner (λ v. v.0) (λ v. v.1) (λ x y. (x, y))
-        (λ v. refl) (λ x y. refl) r n (some_value b) stop
+      pub stops_in_left : (n : ℕ) → ValueStops a q n → ValueStops (pair a b) p n
+      stops_in_left n stop = in_left n (half_stops a 43 comma q n stop)
 
-    module _ (x : Val a) (n : ℕ) (left : ReadsFront (closed_text (value_text a) 44) r x n) where
-      inner_second : (m : ℕ) → StopsAt (closed_text (value_text b) 41) (drop n r) m → StopsAt inner r (n + m)
-      inner_second m stop =
-          stops_second (closed_text (value_text a) 44) (closed_text (value_text b) 41) inner (λ v. v.0) (λ v. v.1) (λ x y. (x, y)) (λ v. refl)
-          (λ x y. refl) r left_free x n left m stop
+      module _ (r : Reader) (left : ValueRead a q r) where
+        pub no_comma : (n : ℕ) → NoByte 44 r n → ValueStops (pair a b) p n
+        no_comma n miss = in_left n (half_misses a 43 comma q r left n miss)
 
-      inner_reads : (y : Val b) (m : ℕ) → ReadsFront (closed_text (value_text b) 41) (drop n r) y m → ReadsFront inner r (x, y) (n + m)
-      inner_reads y m right =
-          reads_both (closed_text (value_text a) 44) (closed_text (value_text b) 41) inner (λ v. v.0) (λ v. v.1) (λ x y. (x, y)) (λ v. refl)
-          (λ x y. refl) r left_free x n left y m right
+        module _ (s : Reader) (comma_read : ByteRead 44 r s) where
+          in_right : (n : ℕ) → PhraseStops (closed_text (value_text b) 41) s n → ValueStops (pair a b) p n
+          in_right n stop = behind n (
+              second_stops (closed_text (value_text a) 44) (closed_text (value_text b) 41) inner (λ v. v.0) (λ v. v.1) (λ x y. (x, y))
+              (λ v. refl) (λ x y. refl) q left_free (cells a) s (half_read a 43 comma q r left s comma_read) n stop
+              )
 
-  module _ (s : List ℕ) (from : Reached) where
-    abbrev rest_of : List ℕ
-    rest_of = drop from.at s
+          pub stops_in_right : (n : ℕ) → ValueStops b s n → ValueStops (pair a b) p n
+          stops_in_right n stop = in_right n (half_stops b 40 bracket s n stop)
 
-    first_byte : get_or rest_of 0 0 ≡ get_or s from.at 0
-    first_byte = byte_past s from.at from.at 0 (omega arith)
+          module _ (t : Reader) (right : ValueRead b s t) where
+            pub unclosed_pair : (n : ℕ) → NoByte 41 t n → ValueStops (pair a b) p n
+            unclosed_pair n miss = in_right n (half_misses b 40 bracket s t right n miss)
 
-    pub pair_starts : (get_or s from.at 0 ≡ 40 → ⊥) → ValueStops (pair a b) s from.at from.at
-    pair_starts other = record { long = 0; end = omega arith; is = pair_unopened rest_of (λ e. other (sym first_byte ∙ e)) }
-
-    module _ (byte : get_or s from.at 0 ≡ 40) (inside : Reached) (at-inside : inside.at ≡ from.at + 1) where
-      behind : drop 1 rest_of ≡ drop inside.at s
-      behind = past_it s from.at inside.at 1 at-inside
-
-      led : get_or rest_of 0 0 ≡ 40
-      led = first_byte ∙ byte
-
-      pub pair_stops_left : (p : ℕ) → HalfStops a 44 s inside.at p → ValueStops (pair a b) s from.at p
-      pair_stops_left p stop = record {
-        long = 1 + stop.long;
-        end = omega (arith, stop.end, at-inside);
-        is = led_stops rest_of led stop.long (subst (λ r. StopsAt inner r stop.long) (sym behind)
-            (inner_first (drop inside.at s) stop.long stop.is));
-      }
-
-      module _ (middle : Reached) (cs cs' : List Int) (left : HalfRead a 44 s inside middle cs cs') where
-        further : drop left.long (drop inside.at s) ≡ drop middle.at s
-        further = past_it s inside.at middle.at left.long left.end
-
-        pub pair_stops_right : (p : ℕ) → HalfStops b 41 s middle.at p → ValueStops (pair a b) s from.at p
-        pair_stops_right p stop = record {
-          long = 1 + (left.long + stop.long);
-          end = omega (arith, stop.end, left.end, at-inside);
-          is = led_stops rest_of led (left.long + stop.long) (subst (λ r. StopsAt inner r (left.long + stop.long)) (sym behind)
-              (inner_second (drop inside.at s) left.value left.long left.is stop.long
-              (subst (λ r. StopsAt (closed_text (value_text b) 41) r stop.long) (sym further) stop.is)));
-        }
-
-        pub pair_read : inside.used ≡ from.used → Sound s from → (end : Reached) (cs'' : List Int) → HalfRead b 41 s middle end cs' cs'' → ValueRead
-            (pair a b) s from end cs cs''
-        pair_read same sound end cs'' right = phrase_read (value_text (pair a b)) (size (pair a b)) (cells (pair a b))
-            (size_short (pair a b)) s from sound end cs cs''
-            (left.value, right.value) (1 + (left.long + right.long))
-            (led_reads rest_of led (left.value, right.value) (left.long + right.long)
-            (subst (λ r. ReadsFront inner r (left.value, right.value) (left.long + right.long)) (sym behind)
-            (inner_reads (drop inside.at s) left.value left.long left.is right.value right.long
-            (subst (λ r. ReadsFront (closed_text (value_text b) 41) r right.value right.long) (sym further) right.is))))
-            (omega (arith, right.end, left.end, at-inside))
-            (omega (arith, right.used, left.used, same))
-            (right.stored ∙ ap₂ (λ (k : List Int) (i : ℕ). sets k i (cells b right.value)) (left.stored ∙ ap (λ i. sets cs i (cells a left.value)) same)
-            (left.used ∙ ap₂ (λ (i n : ℕ). i + n) same (sym (cells-size a left.value))) ∙ sym
-            (sets_append (cells a left.value) (cells b right.value) cs from.used))
+            pub pair_read : (u : Reader) → ByteRead 41 t u → ValueRead (pair a b) p u
+            pair_read u closes =
+                both_read (byte_text 40) inner pairs (λ _. tt) (λ v. v) (λ _ v. v) led (λ _. led) p (byte_free 40) no_cells q (byte_read 40 p q opens)
+                (cells (pair a b)) (cells (pair a b)) (λ _ v. refl) u (
+                both_read (closed_text (value_text a) 44) (closed_text (value_text b) 41) inner (λ v. v.0) (λ v. v.1) (λ x y. (x, y))
+                (λ v. refl) (λ x y. refl) q left_free (cells a) s (half_read a 43 comma q r left s comma_read)
+                (cells b) (cells (pair a b)) (λ x y. refl) u (half_read b 40 bracket s t right u closes)
+                )

@@ -1,17 +1,15 @@
 -- Printing a whole value.
-use Rattle.std.proofs.Common.{◌≡◌, ℕ, ◌+◌, ◌*◌, ◌<◌, ◌≤◌, true, false, List, [], ◌∷◌, ◌++◌, length, drop, sym, ap, ◌∙◌, subst, zero-add, arith, length-append, take-append-drop}
-use lib.Seq.{sets-eq}
-use Rattle.std.proofs.lemmas.List.{nil_from_length}
+use Rattle.std.proofs.Common.{◌≡◌, ℕ, ◌+◌, ◌*◌, ◌<◌, ◌≤◌, true, false, List, [], ◌∷◌, ◌++◌, length, drop, sym, refl, ap, ◌∙◌, subst, zero-add, arith, length-append, take-append-drop}
+use lib.Seq.{sets, sets-eq}
 use Rattle.std.proofs.lemmas.Fmt.{length_signed_le}
-use Rattle.monoid.specs.declared.int.Int.{Int}
 use Rattle.types.specs.Types.{Ty, int, bool, pair, list}
 use Rattle.lang.specs.Values.{Val, size, sum_by}
-use Rattle.texts.specs.declared.pen.Pen.{Pen}
+use Rattle.texts.specs.declared.writer.Writer.{Writer}
 use Rattle.values.specs.Printing.{Printed, Short}
 use Rattle.texts.specs.Printing.{Holds}
 use Rattle.values.specs.Texts.{more_text, list_text}
 use Rattle.texts.specs.Texts.{value_text}
-use Rattle.texts.specs.Writing.{Lies, Writes}
+use Rattle.texts.specs.Writing.{Adds, Writes}
 
 -- ---- a text has at most fourteen bytes a cell
 module _ {X : Type 0} (text : X → List ℕ) (big : X → ℕ) (few : (x : X) → length (text x) + 3 ≤ 14 * big x) where
@@ -38,37 +36,30 @@ text_few (pair a b) v =
     )
 text_few (list a) v = list_few (value_text a) (size a) (text_few a) v
 
--- nothing was printed
-abbrev pub start : Pen
-start = record { cell = 0; place = 0 }
+module _ (t : Ty) (v : Val t) where
+  added : (from to : Writer) → from.place ≡ 0 → Holds t v from.cells.now → Writes t from to → Adds (value_text t v) (drop (size t v) from.cells.now) from to
+  added from to start holds writes = writes.adds v (drop (size t v) from.cells.now) (
+      record {
+        is = sym (take-append-drop (size t v) from.cells.now) ∙ ap (λ k. k ++ drop (size t v) from.cells.now) holds.is;
+        small = holds.small;
+        short = omega (arith, start, holds.small, text_few t v);
+      }
+      )
 
-module _ (t : Ty) (v : Val t) (cs : List Int) (holds : Holds t v cs) where
-  pub held : Lies t v cs start
-  held = record {
-    rest = drop (size t v) cs;
-    is = sym (take-append-drop (size t v) cs) ∙ ap (λ k. k ++ drop (size t v) cs) holds.is;
-    small = holds.small;
-    short = omega (arith, holds.small, text_few t v);
-  }
+  -- the text was counted
+  module _ (from counted : Writer) (start : from.place ≡ 0) (holds : Holds t v from.cells.now) (counts : Writes t from counted) where
+    needed : counted.place ≡ length (value_text t v)
+    needed = omega (arith, start, (added from counted start holds counts).place)
 
-  pub needed_is : (to : Pen) (out out' : List ℕ) → Writes t cs start to out out' → to.place ≡ length (value_text t v)
-  needed_is to out out' writes = omega (arith, (writes v held).place)
+    pub short : (out : List ℕ) → length out < counted.place → Short (value_text t v) counted.place out out
+    short out less = record { length_is = needed; less = less; same = refl }
 
-  -- the first pass writes into no part of the output, which is then seen as o' ++ out
-  module _ (first : Pen) (o o' out : List ℕ) (counts : Writes t cs start first o o') (none : length o' ≡ 0) where
-    seen : o' ++ out ≡ out
-    seen = ap (λ k. k ++ out) (nil_from_length o' none)
-
-    pub short : length (o' ++ out) < first.place → Short (value_text t v) first.place out (o' ++ out)
-    short less = record { length_is = needed_is first o o' counts; less = subst (λ k. length k < first.place) seen less; same = seen }
-
-    pub printed : (to : Pen) (out' : List ℕ) → first.place ≤ length (o' ++ out) → Writes t cs start to (o' ++ out) out' → Printed (value_text t v)
-        to.place out out'
-    printed to out' fits writes =
-        let long = needed_is first o o' counts in
-        let here : Writes t cs start to out out' = subst (λ k. Writes t cs start to k out') seen writes in
+    pub printed : (again to : Writer) → again.place ≡ 0 → again.cells.now ≡ from.cells.now → Writes t again to → counted.place ≤ length again.out.now
+        → (after : List ℕ) → after ≡ to.out.now → Printed (value_text t v) counted.place again.out.now after
+    printed again to start' same writes fits after lent =
+        let a = added again to start' (subst (λ k. Holds t v k) (sym same) holds) writes in
         record {
-          length_is = needed_is to out out' here;
-          written = (here v held).written ∙ sets-eq (value_text t v) out 0 (omega (arith, long, ap length seen)) ∙ ap (λ n. value_text t v ++ drop n out)
-              (zero-add (length (value_text t v)));
+          length_is = needed;
+          written = lent ∙ a.written ∙ ap (λ i. sets again.out.now i (value_text t v)) start' ∙ sets-eq (value_text t v) again.out.now 0 (omega (arith, fits, needed))
+              ∙ ap (λ n. value_text t v ++ drop n again.out.now) (zero-add (length (value_text t v)));
         }

@@ -1,32 +1,15 @@
 -- Reading one phrase behind another.
 use Rattle.std.proofs.Common.{◌≡◌, ℕ, ◌+◌, ◌-◌, ◌<◌, ◌≤◌, List, [], ◌∷◌, ◌++◌, length, get_or, take, drop, sym, refl, ap, ◌∙◌, subst, ap₂, append_assoc, append-nil, arith, length-append, length-drop, take-append-drop}
 use Rattle.std.specs.Int.{IsInRange}
+use Rattle.std.proofs.Math.Seq.{take-add}
 use Rattle.std.proofs.lemmas.List.{take_at, take_more, get_or-drop, length-take-le}
-use Rattle.texts.specs.Phrases.{closed_text}
 use Rattle.values.specs.Reading.{Begins, Longest, ReadsFront, StopsAt}
 use Rattle.values.proofs.Fronts.{whole_within, whole_begins}
-use Rattle.values.proofs.Lists.{take_past}
-use Rattle.values.proofs.Separate.{Separate, PrefixFree, NoDigit, split, free_reads, same_head, same_tail}
-
--- two lists of two parts each that are the same: the first parts are, or one is a beginning of the other
-pub data Cut (xs us ys bs : List ℕ) : Type 0 where
-  even : xs ≡ ys → us ≡ bs → Cut xs us ys bs
-  left_short : (c : ℕ) (r : List ℕ) → ys ≡ xs ++ (c ∷ r) → us ≡ (c ∷ r) ++ bs → Cut xs us ys bs
-  right_short : (c : ℕ) (r : List ℕ) → xs ≡ ys ++ (c ∷ r) → bs ≡ (c ∷ r) ++ us → Cut xs us ys bs
-
-pub cut-both : (xs us ys bs : List ℕ) → xs ++ us ≡ ys ++ bs → Cut xs us ys bs
-cut-both [] us [] bs e = even refl e
-cut-both [] us (y ∷ ys) bs e = left_short y ys refl e
-cut-both (x ∷ xs) us [] bs e = right_short x xs refl (sym e)
-cut-both (x ∷ xs) us (y ∷ ys) bs e = grow (cut-both xs us ys bs (same_tail e))
-  where
-    grow : Cut xs us ys bs → Cut (x ∷ xs) us (y ∷ ys) bs
-    grow (even p q) = even (ap₂ (λ (z : ℕ) (zs : List ℕ). z ∷ zs) (same_head e) p) q
-    grow (left_short c r p q) = left_short c r (ap₂ (λ (z : ℕ) (zs : List ℕ). z ∷ zs) (sym (same_head e)) p) q
-    grow (right_short c r p q) = right_short c r (ap₂ (λ (z : ℕ) (zs : List ℕ). z ∷ zs) (same_head e) p) q
+use Rattle.values.specs.Lists.{Separate}
+use Rattle.values.proofs.Separate.{PrefixFree, NoDigit, Cut, even, left_short, right_short, cut_both, split, free_reads, same_head}
 
 pub free_cut : {X : Type 0} (f : X → List ℕ) → PrefixFree f → (u v : X) (a b : List ℕ) → f u ++ a ≡ f v ++ b → (f u ≡ f v) × (a ≡ b)
-free_cut f free u v a b e = by (cut-both (f u) a (f v) b e)
+free_cut f free u v a b e = by (cut_both (f u) a (f v) b e)
   where
     by : Cut (f u) a (f v) b → (f u ≡ f v) × (a ≡ b)
     by (even p q) = (p, q)
@@ -52,7 +35,7 @@ module _ {X Y Z : Type 0} (f : X → List ℕ) (g : Y → List ℕ) (h : Z → L
         is = makes b.value y ∙ ap (λ t. t ++ g y) b.is ∙ append_assoc (take n r) b.rest (g y);
       };
       beyond = λ k past fits b. by k past fits b.value
-          (cut-both (f (fst b.value)) (g (snd b.value)) (take k r) b.rest (sym (splits b.value) ∙ b.is));
+          (cut_both (f (fst b.value)) (g (snd b.value)) (take k r) b.rest (sym (splits b.value) ∙ b.is));
     };
   }
     where
@@ -72,12 +55,12 @@ module _ {X Y Z : Type 0} (f : X → List ℕ) (g : Y → List ℕ) (h : Z → L
         let z = b.value in
         let parts = free_cut f free (fst z) x (g (snd z)) (take (k - n) (drop n r) ++ b.rest)
         (sym (splits z) ∙ b.is ∙ ap (λ i. take i r ++ b.rest) (sym so) ∙ ap (λ t. t ++ b.rest)
-        (take_past n (k - n) r ∙ ap (λ t. t ++ take (k - n) (drop n r)) reads.is)
+        (take-add n (k - n) r ∙ ap (λ t. t ++ take (k - n) (drop n r)) reads.is)
         ∙ append_assoc (f x) (take (k - n) (drop n r)) b.rest) in
         longest.beyond (k - n) (omega arith) (omega (arith, length-drop n r)) (record { value = snd z; rest = b.rest; is = parts.1 })
 
     seq_take : (m : ℕ) → take (n + m) r ≡ f x ++ take m (drop n r)
-    seq_take m = take_past n m r ∙ ap (λ t. t ++ take m (drop n r)) reads.is
+    seq_take m = take-add n m r ∙ ap (λ t. t ++ take m (drop n r)) reads.is
 
     seq_longest : (m : ℕ) → Longest g (drop n r) m → Longest h r (n + m)
     seq_longest m longest = let b = longest.begins in record {
@@ -107,6 +90,9 @@ module _ {X Y Z : Type 0} (f : X → List ℕ) (g : Y → List ℕ) (h : Z → L
     }
 
 -- ---- a text with a byte behind it
+abbrev pub closed_text : {X : Type 0} → (X → List ℕ) → ℕ → X → List ℕ
+closed_text text c x = text x ++ (c ∷ [])
+
 module _ {X : Type 0} (text : X → List ℕ) (separate : Separate text) (c : ℕ) (sign : NoDigit c) where
   pub closed_free : PrefixFree (closed_text text c)
   closed_free u v d t e =
@@ -125,7 +111,7 @@ module _ {X : Type 0} (text : X → List ℕ) (separate : Separate text) (c : �
       -- the byte is not there
       module _ (other : get_or r n 0 ≡ c → ⊥) where
         none : (y : X) (k : ℕ) → take k r ≡ text y ++ (c ∷ []) → ⊥
-        none y k e = by (cut-both (text y) (c ∷ drop k r) (text x) (drop n r) same)
+        none y k e = by (cut_both (text y) (c ∷ drop k r) (text x) (drop n r) same)
           where
             same : text y ++ (c ∷ drop k r) ≡ text x ++ drop n r
             same = sym (append_assoc (text y) (c ∷ []) (drop k r)) ∙ ap (λ t. t ++ drop k r) (sym e) ∙ take-append-drop k r
@@ -155,7 +141,7 @@ module _ {X : Type 0} (text : X → List ℕ) (separate : Separate text) (c : �
           longest = record {
             within = reads.longest.within;
             begins = record { value = x; rest = c ∷ []; is = ap (λ t. t ++ (c ∷ [])) (sym reads.is) };
-            beyond = λ k past fits b. by k past fits b.value (cut-both (text b.value) (c ∷ []) (take k r) b.rest b.is);
+            beyond = λ k past fits b. by k past fits b.value (cut_both (text b.value) (c ∷ []) (take k r) b.rest b.is);
           };
         }
           where

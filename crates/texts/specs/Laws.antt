@@ -6,7 +6,7 @@ use Rattle.monoid.specs.Ints.{width}
 use Rattle.types.specs.Types.{Ty}
 use Rattle.lang.specs.Values.{Val, size}
 use Rattle.lang.specs.Layout.{cells}
-use Rattle.texts.specs.declared.fault.PrintFault.{PrintFault}
+use Rattle.values.specs.declared.print.TooShort.{TooShort}
 use Rattle.texts.specs.declared.fault.ReadFault.{ReadFault}
 use Rattle.texts.specs.Outcome.{IsValue, Reads}
 use Rattle.values.specs.Printing.{Printed, Short}
@@ -31,5 +31,5 @@ ReadPrinted =
 -- the cells that were read are printed as the bytes that they were read from
 abbrev pub PrintRead : Type 0
 PrintRead =
-    (t : Ty) (s : List ℕ) (n : ℕ) (cs cs' : List Int) (out out' : List ℕ) (r : Result ℕ PrintFault)
+    (t : Ty) (s : List ℕ) (n : ℕ) (cs cs' : List Int) (out out' : List ℕ) (r : Result ℕ TooShort)
     → IsValue t s n cs cs' → n < 2 ^ hbits width → Prints t cs' out out' r → MatchResult r (λ m. Printed s m out out') (λ f. Short s f.needed out out')

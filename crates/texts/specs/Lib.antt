@@ -3,5 +3,6 @@ pub mod Laws
 pub mod Outcome
 pub mod Phrases
 pub mod Printing
+pub mod ScalarLemmas
 pub mod Texts
 pub mod Writing

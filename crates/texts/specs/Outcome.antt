@@ -5,7 +5,6 @@ use Rattle.monoid.specs.declared.int.Int.{Int}
 use Rattle.types.specs.Types.{Ty}
 use Rattle.lang.specs.Values.{Val, size}
 use Rattle.lang.specs.Layout.{cells}
-use Rattle.texts.specs.declared.fault.PrintFault.{PrintFault}
 use Rattle.texts.specs.declared.fault.ReadFault.{ReadFault}
 use Rattle.texts.specs.declared.fault.ReadFault.TheVariants.{NoValue, TooLarge}
 use Rattle.values.specs.Reading.{NoText}
@@ -15,9 +14,6 @@ use Rattle.texts.specs.Texts.{value_text}
 abbrev pub of_read : ReadFault → Refusal
 of_read (NoValue place) = record { number = 11; place = place }
 of_read TooLarge = record { number = 12; place = 0 }
-
-abbrev pub of_print : PrintFault → Refusal
-of_print f = record { number = 21; place = f.needed }
 
 -- s is the text of a value of the type t and of no other; its cells, n of them, stand first, and further cells are as they were
 pub record IsValue (t : Ty) (s : List ℕ) (n : ℕ) (cs cs' : List Int) : Type 0 where

@@ -1,8 +1,10 @@
-// Why a text is not read or not printed.
+// Why a text is not read.
 ghost use Rattle.std.specs.Prelude.{◌≡◌};
-ghost use Rattle.texts.specs.Outcome.{of_read, of_print};
+ghost use Rattle.texts.specs.Outcome.{of_read};
+ghost use Rattle.texts.specs.declared.fault.ReadFault.TheVariants.{NoValue};
 
 use refusal::Refusal;
+use values::front::Stopped;
 
 #[derive(Clone, Copy)]
 pub enum ReadFault {
@@ -10,6 +12,14 @@ pub enum ReadFault {
     NoValue(usize),
     // The text is that of a value, which has more cells than there is room for.
     TooLarge,
+}
+
+impl From<Stopped> for ReadFault {
+    ghost from_gives = { λ stop r. r ≡ NoValue stop.length };
+
+    fn from(stop: Stopped) -> ReadFault {
+        ReadFault::NoValue(stop.length)
+    }
 }
 
 impl From<ReadFault> for Refusal {
@@ -22,23 +32,6 @@ impl From<ReadFault> for Refusal {
                 number: 12,
                 place: 0,
             },
-        }
-    }
-}
-
-// The output is too short for the text, which has this length.
-#[derive(Clone, Copy)]
-pub struct PrintFault {
-    pub needed: usize,
-}
-
-impl From<PrintFault> for Refusal {
-    ghost from_gives = { λ f r. r ≡ of_print f };
-
-    fn from(f: PrintFault) -> Refusal {
-        Refusal {
-            number: 21,
-            place: f.needed,
         }
     }
 }

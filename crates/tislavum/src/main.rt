@@ -24,9 +24,13 @@ fn read_input(rt: &HostRuntime) -> anyhow::Result<Vec<u8>> {
     Ok(text)
 }
 
-fn show_refusal(rt: &HostRuntime, text: &[u8], refusal: Refusal) -> anyhow::Result<()> {
+fn show_refusal(
+    rt: &HostRuntime,
+    text: &[u8],
+    refusal: Refusal,
+    meaning: &str,
+) -> anyhow::Result<()> {
     let Refusal { number, place } = refusal;
-    let meaning = show::meaning(number);
     eprintln!(rt; "refused: {number} at {place}: {meaning}")?;
     eprintln!(rt; "{}", show::caret(rt.alloc(), text, place)?)?;
     Err(anyhow!("refused"))
@@ -37,20 +41,26 @@ fn check(rt: &HostRuntime) -> anyhow::Result<()> {
     let mut table = Table::new(rt.alloc())?;
     match table.read(text.as_slice()) {
         Ok(()) => {
-            let count = table.occurrences().len();
-            println!(rt; "reads: {count} occurrences")?;
+            println!(rt; "reads: {} occurrences", table.occurrences().len())?;
             Ok(())
         }
-        Err(fault) => show_refusal(rt, text.as_slice(), Refusal::from(fault)),
+        Err(fault) => show_refusal(
+            rt,
+            text.as_slice(),
+            Refusal::from(fault),
+            show::why_not_read(fault),
+        ),
     }
 }
 
-fn show_report(rt: &HostRuntime, output: &[u8], report: Report) -> anyhow::Result<()> {
-    let length = report.length.min(output.len());
-    rt.stdout().write_all(&output[0..length])?;
-    let players = report.players;
-    let games = report.games;
-    let operations = report.operations;
+fn show_report(rt: &HostRuntime, printed: &[u8], report: Report) -> anyhow::Result<()> {
+    let Report {
+        players,
+        games,
+        operations,
+        ..
+    } = report;
+    rt.stdout().write_all(printed)?;
     println!(rt; "\n{players} players, {games} games, {operations} monoid operations")?;
     Ok(())
 }
@@ -59,19 +69,23 @@ fn show_report(rt: &HostRuntime, output: &[u8], report: Report) -> anyhow::Resul
 // and two brackets, and a row takes two bytes at least.
 fn run_totals(rt: &HostRuntime) -> anyhow::Result<()> {
     let heap = rt.alloc();
-    let mut text = read_input(rt)?;
-    if let Some(b'\n') = text.last().copied() {
-        let _ = text.pop();
-    }
+    let input = read_input(rt)?;
+    let text = input.as_slice();
+    let text = text.strip_suffix(b"\n").unwrap_or(text);
     let room = text.len().saturating_mul(6).saturating_add(12);
     let mut output = vec![in heap; 0u8; room]?;
-    let mut engine = Sequential::new();
-    match totals(&mut engine, heap, text.as_slice(), output.as_mut_slice()) {
-        Ok(report) => show_report(rt, output.as_slice(), report),
-        Err(fault) => match fault.refusal() {
-            Some(refusal) => show_refusal(rt, text.as_slice(), refusal),
-            None => Err(anyhow!("out of memory")),
-        },
+    match totals(&mut Sequential::new(), heap, text, output.as_mut_slice()) {
+        Ok(report) => {
+            output.truncate(report.length);
+            show_report(rt, output.as_slice(), report)
+        }
+        Err(fault) => {
+            let meaning = show::why_not_totalled(fault);
+            match fault.refusal() {
+                Some(refusal) => show_refusal(rt, text, refusal, meaning),
+                None => Err(anyhow!("{meaning}")),
+            }
+        }
     }
 }
 

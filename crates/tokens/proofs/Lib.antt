@@ -1,3 +1,5 @@
+pub mod Same
+pub mod Worth
 pub mod Runs
 pub mod Names
 pub mod Tables

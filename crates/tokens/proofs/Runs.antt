@@ -1,7 +1,8 @@
 -- What a longest run of a class says of its bytes and its ends.
-use Rattle.std.proofs.Common.{◌≡◌, ℕ, ◌+◌, ◌-◌, ◌<◌, ◌≤◌, true, false, List, length, get_or, sym, refl, ap, ◌∙◌, ⊎_elim, arith}
+use Rattle.std.proofs.Common.{◌≡◌, ℕ, ◌+◌, ◌-◌, ◌<◌, ◌≤◌, true, false, List, length, get_or, drop, Some, None, Option, MatchOption, sym, refl, ap, ◌∙◌, ⊎_elim, arith, length-drop}
+use Rattle.std.specs.List.{HoldsAt, AllWithin}
 use Rattle.std.proofs.lemmas.List.Edits.{get_or-between, length-between}
-use Rattle.std.proofs.lemmas.List.{get_or_past}
+use Rattle.std.proofs.lemmas.List.{get_or_past, get_or-drop}
 use Rattle.std.proofs.lemmas.Bool.{cases_lt, cases_order, both_ways}
 use Rattle.tokens.specs.declared.byte.Class.{Class}
 use Rattle.tokens.specs.declared.byte.Class.TheVariants.{Blank, InName, Digit}
@@ -41,3 +42,23 @@ pub run_bytes : {p : Class} {bs : List ℕ} {i e : ℕ} → Run p bs i e → All
 run_bytes {p} {bs} {i} {e} r = λ k h.
     let lt : i + k < e = omega (arith, run_length r) in
     ap (in_class p) (get_or-between bs i e k 0 lt) ∙ r.all (i + k) (omega arith) lt
+
+-- a run ends at the first byte of another class
+inside : (p : Class) (bs : List ℕ) (i k : ℕ) → i ≤ k → in_class p (get_or (drop i bs) (k - i) 0) ≡ true → in_class p (get_or bs k 0) ≡ true
+inside p bs i k le h =
+    let same : i + (k - i) ≡ k = omega arith in
+    ap (λ m. in_class p (get_or bs m 0)) (sym same) ∙ ap (in_class p) (sym (get_or-drop i bs (k - i) 0)) ∙ h
+
+pub ended : (p : Class) (bs : List ℕ) (i e : ℕ) (o : Option ℕ) → i ≤ length bs → MatchOption o (AllWithin (λ b. in_class p b ≡ true) (drop i bs) 0 (length (drop i bs))) (λ n. (n < length (drop i bs)) × HoldsAt (λ b. in_class p b ≡ false) (drop i bs) n × AllWithin (λ b. in_class p b ≡ true) (drop i bs) 0 n) → MatchOption o (e ≡ length bs) (λ n. e ≡ i + n) → Run p bs i e
+ended p bs i e None le h r = record {
+  from = omega arith;
+  within = omega arith;
+  all = λ k low high. inside p bs i k low (h (k - i) 0 (omega arith) (simp length-drop (omega arith)));
+  stops = past_stops p bs e (omega arith);
+}
+ended p bs i e (Some n) le h r = record {
+  from = omega arith;
+  within = omega (arith, length-drop i bs);
+  all = λ k low high. inside p bs i k low (h.2 (k - i) 0 (omega arith) (omega arith));
+  stops = ap (in_class p) (ap (λ k. get_or bs k 0) r ∙ sym (get_or-drop i bs n 0)) ∙ h.1 0;
+}

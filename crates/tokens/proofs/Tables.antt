@@ -1,5 +1,6 @@
 -- What holds of each kind of a table, and the table of words.
-use Rattle.std.proofs.Common.{◌≡◌, ℕ, zero, suc, ◌<◌, true, false, cond, List, [], ◌∷◌, length, get_or, sym, ap, ◌∙◌, subst, arith, rules}
+use Rattle.std.proofs.Common.{◌≡◌, ℕ, zero, suc, ◌<◌, true, false, cond, List, [], ◌∷◌, length, get_or, Some, None, Option, IfSome, MatchOption, sym, ap, ◌∙◌, subst, arith, rules}
+use Rattle.std.specs.List.{HoldsAt, AllWithin}
 use Rattle.std.specs.Str.{bytes_eq}
 use Rattle.std.proofs.lemmas.Bool.{and_parts, le-ltb, ltb-true}
 use Rattle.tokens.specs.declared.kind.Kind.{Kind}
@@ -43,3 +44,8 @@ word-plain w k h = le-ltb (code k) 5 (omega (arith, ltb-true 6 (code k) (and_par
 -- bytes are at most one word
 pub word_same : (w : List ℕ) (k l : Kind) → IsWord w k → IsWord w l → k ≡ l
 word_same w k l h g = sym (word_listed w k h).1 ∙ ap (first all_words) (sym h.3 ∙ g.3) ∙ (word_listed w l g).1
+
+-- the first of all words that is spelt so
+pub found : (w : List ℕ) (o : Option Kind) → MatchOption o (AllWithin (λ k. w ≡ spelling k → ⊥) all_words 0 (length all_words)) (λ k. (w ≡ spelling k) × (i : ℕ) × (i < length all_words) × HoldsAt (λ l. l ≡ k) all_words i × AllWithin (λ l. w ≡ spelling l → ⊥) all_words 0 i) → MatchOption o ((k : Kind) → IsWord w k → ⊥) (IsWord w) × IfSome o (λ k. word_kind k ≡ true)
+found w None h = (λ k is. h is.0 End (omega arith) is.1 (is.3 ∙ ap spelling (sym is.2)), tt)
+found w (Some k) h = let is : IsWord w k = (h.1, h.2, h.3 End, h.0) in (is, word_kind_lem w k is)

@@ -1,5 +1,5 @@
 // Bytes by class, and runs of them.
-ghost use Rattle.std.specs.Prelude.{◌≡◌, ◌≤◌, length, slice_index};
+ghost use Rattle.std.specs.Prelude.{◌≡◌, ◌≤◌, length};
 ghost use Rattle.tokens.specs.Bytes.{blank, in_name, in_class, Run};
 
 // A class of bytes: what may stand between tokens, what a name or a word is made of, digits.
@@ -39,16 +39,8 @@ pub fn run_end(text: &[u8], from: usize, class: Class) -> usize
     requires { from ≤ length text.now }
     ensures { Run class text.now from result }
 {
-    let mut i = from;
-    while i < text.len() && class.holds(text[i]) {
-        i += 1;
-    }
-    i
-}
-
-// The byte at a place, or 0 past the end.
-pub fn byte_at(text: &[u8], i: usize) -> u8
-    ensures { result ≡ slice_index text.now i }
-{
-    if i < text.len() { text[i] } else { 0 }
+    text[from..]
+        .iter()
+        .position(|b| !class.holds(*b))
+        .map_or(text.len(), |n| from + n)
 }

@@ -1,5 +1,5 @@
 // Cuts a text into its tokens.
-ghost use Rattle.std.specs.Prelude.{◌≡◌, ℕ, ◌<◌, ◌≤◌, List, [], length, vec_capacity, nat_le};
+ghost use Rattle.std.specs.Prelude.{◌≡◌, ℕ, ◌<◌, ◌≤◌, List, [], length, vec_capacity};
 ghost use Rattle.tokens.specs.Kinds.{place_at, stopped, unstopped};
 ghost use Rattle.tokens.specs.Cutting.{Next, Cuts};
 
@@ -9,12 +9,6 @@ use super::lexeme::lexeme;
 
 // The most tokens that a text may have.
 const MAX_TOKENS: usize = 1024;
-
-fn is_full(tokens: usize) -> bool
-    ensures { result ≡ nat_le 1024 tokens }
-{
-    tokens >= MAX_TOKENS
-}
 
 // What may stand after the last token. It takes no bytes.
 fn stop(kind: Kind, at: usize) -> Token
@@ -32,13 +26,8 @@ fn next(text: &[u8], i: usize, tokens: usize) -> Token
         return stop(Kind::End, i);
     }
     match lexeme(text, i) {
-        Ok(token) => {
-            if is_full(tokens) {
-                stop(Kind::OverLimit, i)
-            } else {
-                token
-            }
-        }
+        Ok(_) if tokens >= MAX_TOKENS => stop(Kind::OverLimit, i),
+        Ok(token) => token,
         Err(fault) => stop(Kind::from(fault), i),
     }
 }

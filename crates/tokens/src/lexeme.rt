@@ -3,11 +3,11 @@ ghost use Rattle.std.specs.Prelude.{◌≡◌, ◌<◌, true, false, length, sli
 ghost use Rattle.std.specs.Char.{is_ascii_digit, is_ascii_lowercase};
 ghost use Rattle.tokens.specs.Lexemes.{Read};
 
-use super::byte::{Class, byte_at, run_end};
+use super::byte::{Class, run_end};
 use super::fault::TokenFault;
 use super::kind::{Kind, Token};
 use super::number::number;
-use super::sign::{sign, sign_len};
+use super::sign::sign;
 use super::word::{find_name, find_word};
 
 // From a letter: a word or a name.
@@ -20,10 +20,7 @@ fn letters(text: &[u8], i: usize) -> Result<Token, TokenFault>
     let Some(name) = find_name(bytes) else {
         return Err(TokenFault::TooLong(i));
     };
-    let kind = match find_word(bytes) {
-        Some(word) => word,
-        None => Kind::Name(name),
-    };
+    let kind = find_word(bytes).unwrap_or(Kind::Name(name));
     Ok(Token { kind, at: i, end })
 }
 
@@ -49,11 +46,11 @@ fn other(text: &[u8], i: usize) -> Result<Token, TokenFault>
     requires class { (is_ascii_lowercase (slice_index text.now i) ≡ false) × (is_ascii_digit (slice_index text.now i) ≡ false) }
     ensures { Read text.now i result }
 {
-    match sign(text[i], byte_at(text, i + 1)) {
-        Some(kind) => Ok(Token {
+    match sign(&text[i..]) {
+        Some((kind, len)) => Ok(Token {
             kind,
             at: i,
-            end: i + sign_len(kind),
+            end: i + len,
         }),
         None => Err(TokenFault::NoToken(i)),
     }

@@ -1,46 +1,34 @@
 // The signs.
-ghost use Rattle.std.specs.Prelude.{◌≡◌};
+ghost use Rattle.std.specs.Prelude.{◌≡◌, None, Some, MatchOption, slice_index};
 ghost use Rattle.tokens.specs.Signs.{sign_of, sign_length};
 
 use super::kind::Kind;
 
-// The sign that begins with a byte, by the byte after it.
-pub fn sign(b: u8, next: u8) -> Option<Kind>
-    ensures { result ≡ sign_of b next }
+// The sign that a text begins with, and how many bytes it has.
+pub fn sign(text: &[u8]) -> Option<(Kind, usize)>
+    ensures { MatchOption result (sign_of (slice_index text.now 0) (slice_index text.now 1) ≡ None) (λ s. (sign_of (slice_index text.now 0) (slice_index text.now 1) ≡ Some s.0) × (s.1 ≡ sign_length s.0)) }
 {
-    match b as char {
-        '(' => Some(Kind::Open),
-        ')' => Some(Kind::Close),
-        '[' => Some(Kind::SquareOpen),
-        ']' => Some(Kind::SquareClose),
-        '{' => Some(Kind::CurlyOpen),
-        '}' => Some(Kind::CurlyClose),
-        ',' => Some(Kind::Comma),
-        ':' => Some(Kind::Colon),
-        '|' => Some(Kind::Bar),
-        '=' => {
-            if next == b'=' {
-                Some(Kind::Same)
-            } else {
-                Some(Kind::Equal)
-            }
-        }
-        '<' => Some(Kind::Less),
-        '+' => Some(Kind::Plus),
-        '-' => Some(Kind::Minus),
-        '*' => Some(Kind::Times),
-        '/' => Some(Kind::Divide),
-        '%' => Some(Kind::Remainder),
-        _ => None,
+    if text.starts_with(b"==") {
+        return Some((Kind::Same, 2));
     }
-}
-
-// How many bytes a sign has.
-pub fn sign_len(kind: Kind) -> usize
-    ensures { result ≡ sign_length kind }
-{
-    match kind {
-        Kind::Same => 2,
-        _ => 1,
-    }
+    let kind = match *text.first()? as char {
+        '(' => Kind::Open,
+        ')' => Kind::Close,
+        '[' => Kind::SquareOpen,
+        ']' => Kind::SquareClose,
+        '{' => Kind::CurlyOpen,
+        '}' => Kind::CurlyClose,
+        ',' => Kind::Comma,
+        ':' => Kind::Colon,
+        '|' => Kind::Bar,
+        '=' => Kind::Equal,
+        '<' => Kind::Less,
+        '+' => Kind::Plus,
+        '-' => Kind::Minus,
+        '*' => Kind::Times,
+        '/' => Kind::Divide,
+        '%' => Kind::Remainder,
+        _ => return None,
+    };
+    Some((kind, 1))
 }

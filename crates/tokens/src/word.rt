@@ -76,35 +76,19 @@ pub fn find_word(text: &[u8]) -> Option<Kind>
     ensures word { MatchOption result ((k : Kind) → IsWord text.now k → ⊥) (λ k. IsWord text.now k) }
     ensures kind { IfSome result (λ k. word_kind k ≡ true) }
 {
-    for word in &WORDS {
-        if text == word.spelling() {
-            return Some(*word);
-        }
-    }
-    None
+    WORDS.iter().copied().find(|word| text == word.spelling())
 }
 
-// The name of these bytes. No other bytes have this name.
-fn pad(text: &[u8]) -> Name
-    requires few { length text.now ≤ 16 }
-    requires class { AllIn InName text.now }
-    ensures bytes { result.bytes ≡ padded text.now }
-    ensures only { (other : List ℕ) → AllIn InName other → result.bytes ≡ padded other → other ≡ text.now }
-{
-    let mut bytes = [0; MAX_NAME];
-    bytes[..text.len()].copy_from_slice(text);
-    Name { bytes }
-}
-
-// The name of these bytes, unless it is too long.
+// The name of these bytes, unless it is too long. No other bytes have this name.
 pub fn find_name(text: &[u8]) -> Option<Name>
     requires { AllIn InName text.now }
     ensures bytes { MatchOption result (16 < length text.now) (λ n. (length text.now ≤ 16) × (n.bytes ≡ padded text.now)) }
     ensures only { IfSome result (λ n. (other : List ℕ) → AllIn InName other → n.bytes ≡ padded other → other ≡ text.now) }
 {
     if text.len() > MAX_NAME {
-        None
-    } else {
-        Some(pad(text))
+        return None;
     }
+    let mut bytes = [0; MAX_NAME];
+    bytes[..text.len()].copy_from_slice(text);
+    Some(Name { bytes })
 }

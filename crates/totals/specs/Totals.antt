@@ -1,7 +1,7 @@
 -- What totals are, and what each answer says.
 use Rattle.std.specs.Prelude.{◌≡◌, ℕ, ◌+◌, ◌%◌, ◌^◌, List, map, length, Some, None, Option}
 use Rattle.monoid.specs.Ints.{wrapped_sum}
-use Rattle.monoid.specs.Segments.{concat, cut}
+use Rattle.monoid.specs.Segments.{concat}
 use Rattle.monoid.specs.declared.int.Int.{Int}
 use Rattle.values.specs.Printing.{Printed, Short}
 use Rattle.values.specs.Reading.{NoText}
@@ -26,16 +26,6 @@ of_read MemoryRead = Memory
 -- the text of the totals: for each row, in order, the sum of its ints, wrapped; an empty row has 0
 abbrev pub totals_text : List (List Int) → List ℕ
 totals_text rows = list_text int_text (map wrapped_sum rows)
-
--- the same where the rows stand side by side
-abbrev pub sums_text : List Int → List ℕ → List ℕ
-sums_text ints lengths = totals_text (cut ints lengths)
-
-pub record Scored (price : ℕ → ℕ) (ints : List Int) (lengths out out' : List ℕ) (report : Report) : Type 0 where
-  pub printed : Printed (sums_text ints lengths) report.length out out'
-  pub players : report.players ≡ length lengths
-  pub games : report.games ≡ length ints
-  pub operations : report.operations ≡ price (length ints) % 2 ^ 64
 
 -- the text is that of rows, and of no others
 pub record IsRows (text : List ℕ) (rows : List (List Int)) : Type 0 where

@@ -7,7 +7,7 @@ use crate::report::TotalsFault;
 use refusal::Refusal;
 use std::alloc::AllocError;
 use values::fault::ReadFault;
-use values::print::TooShort as Shortage;
+use values::print::TooShort;
 
 impl From<ReadFault> for TotalsFault {
     ghost from_gives = { λ f r. r ≡ of_read f };
@@ -20,10 +20,10 @@ impl From<ReadFault> for TotalsFault {
     }
 }
 
-impl From<Shortage> for TotalsFault {
+impl From<TooShort> for TotalsFault {
     ghost from_gives = { λ f r. r ≡ TooShort f.needed };
 
-    fn from(f: Shortage) -> TotalsFault {
+    fn from(f: TooShort) -> TotalsFault {
         TotalsFault::TooShort(f.needed)
     }
 }

@@ -18,9 +18,9 @@ fn main(rt: HostRuntime) -> anyhow::Result<()> {
         let line = line?;
         match line.as_str().split_once(' ') {
             Some(("totals", text)) => rows::try_totals(&rt, text.as_bytes())?,
-            Some(("read", hex)) => texts::try_hex(&rt, &mut table, hex.as_bytes())?,
+            Some(("read", digits)) => texts::try_hex(&rt, &mut table, digits.as_bytes())?,
             Some(("occurrences", text)) => texts::try_text(&rt, &mut table, text.as_bytes())?,
-            Some(("nested", count)) => texts::try_nested(&rt, &mut table, count.parse::<usize>()?)?,
+            Some(("nested", count)) => texts::try_nested(&rt, &mut table, count.parse()?)?,
             Some(("#", _)) => {}
             _ => println!(rt; "bad line")?,
         }

@@ -34,6 +34,9 @@ counted t = min (parts t) 1000000
 abbrev pub blank : Entry
 blank = record { node = node.Int; count = 0 }
 
+abbrev pub int_entry : Entry
+int_entry = record { node = node.Int; count = 1 }
+
 -- which node stands at an index
 abbrev pub NodeAt : List Entry → ℕ → TypeNode → Type 0
 NodeAt es i n = (get_or es i blank).node ≡ n
@@ -43,7 +46,7 @@ Missing es n = (i : ℕ) → i < length es → NodeAt es i n → ⊥
 
 -- what every table begins with
 abbrev pub first : List Entry
-first = record { node = node.Int; count = 1 } ∷ record { node = node.Bool; count = 1 } ∷ []
+first = int_entry ∷ record { node = node.Bool; count = 1 } ∷ []
 
 abbrev pub is_int : Ty → Bool
 is_int int = true

@@ -1,70 +1,61 @@
 -- The innermost variable of a name.
-use Rattle.std.proofs.Common.{◌≡◌, ℕ, zero, suc, ◌+◌, ◌-◌, ◌<◌, ◌≤◌, true, false, List, [], ◌∷◌, length, get_or, vec_items, vec_len, sym, refl, ap, ◌∙◌, subst, arith, below_more}
+use Rattle.std.proofs.Common.{◌≡◌, ℕ, suc, ◌+◌, ◌-◌, ◌≤◌, Bool, true, false, cond, List, [], ◌∷◌, Decides, map, refl, sym, ap, ◌∙◌, subst, arith}
+use Rattle.std.specs.Prelude.{Option, None, Some}
 use mathlib.Core.Option.{none, some}
+use Rattle.std.specs.List.{find, enumerate_from}
+use denote.Ref.{Bor}
+use Rattle.std.specs.Option.{MatchOption, option_copied, unwrap_or}
+use Rattle.std.proofs.lemmas.Bool.Decides.{same_from_decides}
 use Rattle.tokens.specs.declared.kind.Name.{Name}
-use Rattle.types.specs.Types.{int}
-use Rattle.lang.specs.Scope.{Binding, kinds, same_name}
-use Rattle.judging.specs.Judging.{find, nearer}
-use Rattle.typing.specs.Codes.{binding_of}
-use Rattle.typing.specs.Holding.{held, known, type_in}
-use Rattle.typing.specs.declared.checker.Checker.{Checker}
+use Rattle.types.specs.Types.{Ty}
+use Rattle.lang.specs.Scope.{kinds, same_name}
+use Rattle.lang.proofs.Names.{name_same, name_is}
+use Rattle.judging.specs.Judging.{find as find_in}
+use Rattle.typing.specs.Codes.{type_at, binding_of}
 use Rattle.typing.specs.declared.parts.Binding.{Binding as Entry}
-use Rattle.typing.proofs.Lists.{top_there, under_at}
-use Rattle.typing.proofs.Held.{scope_long, sc}
 
-pub find_none : (s : List Binding) (n : Name) → ((j : ℕ) (d : Binding) → j < length s → same_name n (get_or s j d).name ≡ false) → find s n ≡ none
-find_none [] n h = refl
-find_none (b ∷ s) n h =
-    ap (λ t. nearer t (0, b.type) (find s n)) (h 0 b (omega arith)) ∙ ap (nearer false (0, b.type)) (find_none s n (λ j d lt. h (suc j) d (omega arith)))
+-- what `==` of two names says
+pub names_agree : (r : Bool) (m n : Name) → Decides r (m ≡ n) → r ≡ same_name n m
+names_agree r m n d =
+    same_from_decides r (same_name n m) d (λ e. sym (name_is n m e), λ e. ap (same_name n) e ∙ name_same n)
 
-pub find_at : (s : List Binding) (n : Name) (k : ℕ) (d : Binding) → ((j : ℕ) (d : Binding) → j < k → same_name n (get_or s j d).name ≡ false) → k < length s → same_name n (get_or s k d).name ≡ true → find s n ≡ some (k, (get_or s k d).type)
-find_at [] n k d h lt e = absurd (omega arith)
-find_at (b ∷ s) n zero d h lt e = ap (λ t. nearer t (0, b.type) (find s n)) e
-find_at (b ∷ s) n (suc k) d h lt e =
-    ap (λ t. nearer t (0, b.type) (find s n)) (h 0 b (omega arith)) ∙ ap (nearer false (0, b.type)) (find_at s n k d (λ j d lt. h (suc j) d (omega arith)) (omega arith) e)
+module _ (ts : List Ty) (name : Name) where
+  abbrev pub named : ℕ × Entry → Bool
+  named p = same_name name p.1.name
 
-module _ (c : Checker) (name : Name) (n k : ℕ) (long : n ≡ vec_len c.scope) where
-  abbrev Before : ℕ → Type 0
-  Before m = (j : ℕ) (d : Binding) → j < m → same_name name (get_or (held c).scope j d).name ≡ false
+  -- what is found from the entry i on
+  abbrev Found : ℕ → List Entry → Option (ℕ × Entry) → Type 0
+  Found i sc r = MatchOption r (find_in (map (binding_of ts) sc) name ≡ none) (λ p. (i ≤ p.0) × (find_in (map (binding_of ts) sc) name ≡ some (p.0 - i, type_at ts p.1.code)))
 
-  pub not_there : n ≤ k → Before k → find (held c).scope name ≡ none
-  not_there past h = find_none (held c).scope name (λ j d lt. h j d (omega (arith, scope_long c)))
+  found_from : (i : ℕ) (sc : List Entry) → Found i sc (find named (enumerate_from i sc))
+  found_from i [] = refl
+  found_from i (b ∷ sc) =
+      by (same_name name b.name) refl (find named (enumerate_from (i + 1) sc)) (found_from (i + 1) sc)
+    where
+      by : (t : Bool) → same_name name b.name ≡ t → (r : Option (ℕ × Entry)) → Found (i + 1) sc r → Found i (b ∷ sc) (cond t (Some (i, b)) r)
+      by true e r h = let z : 0 ≡ i - i = omega arith in (omega arith, rw e (ap (λ n. some (n, type_at ts b.code)) z))
+      by false e None h = rw (e, h) refl
+      by false e (Some p) h =
+          let z : suc (p.0 - (i + 1)) ≡ p.0 - i = omega (arith, h.0) in
+          (omega (arith, h.0), rw (e, h.1) (ap (λ n. some (n, type_at ts p.1.code)) z))
 
-  module _ (b : Entry) (lt : k < n) (at : b ≡ get_or (vec_items c.scope) (n - 1 - k) b) where
-    here : (d : Binding) → get_or (held c).scope k d ≡ binding_of (known c) b
-    unfolding held
-    here d = sym (top_there (binding_of (known c)) (vec_items c.scope) n k (n - 1 - k) b d (omega arith) lt refl at)
+  module _ (sc : List Entry) (r : Option (ℕ × Entry)) (at : r ≡ find named (enumerate_from 0 sc)) where
+    there : Found 0 sc r
+    there = subst (Found 0 sc) (sym at) (found_from 0 sc)
 
-    pub there : same_name name b.name ≡ true → Before k → (b.code < length (known c)) × (find (held c).scope name ≡ some (k, type_in c b.code))
-    there e h =
-        let d : Binding = binding_of (known c) b in
-        let i : n - 1 - k < length (vec_items c.scope) = omega arith in (
-          subst (λ (x : Entry). x.code < length (known c)) (sym at) (under_at (λ (x : Entry). x.code) _ (sc c) (n - 1 - k) b c.codes.0 i),
-          find_at (held c).scope name k d h (omega (arith, scope_long c)) (ap (λ (x : Binding). same_name name x.name) (here d) ∙ e) ∙ ap (λ (x : Binding). some (k, x.type)) (here d),
-        )
+    pub not_found : r ≡ None → find_in (map (binding_of ts) sc) name ≡ none
+    not_found e = subst (Found 0 sc) e there
 
-    pub passed : same_name name b.name ≡ false → Before k → Before (k + 1)
-    passed e h j d = below_more (λ j. same_name name (get_or (held c).scope j d).name ≡ false) k (λ j lt. h j d lt) (ap (λ (x : Binding). same_name name x.name) (here d) ∙ e) j
+    pub found_at : (i : ℕ) (b : Entry) → r ≡ Some (i, b) → find_in (map (binding_of ts) sc) name ≡ some (i, type_at ts b.code)
+    found_at i b e = let f : Found 0 sc (Some (i, b)) = subst (Found 0 sc) e there in
+        let z : i - 0 ≡ i = omega arith in
+        f.1 ∙ ap (λ n. some (n, type_at ts b.code)) z
 
--- the innermost variable of all
-kinds-first : (s : List Binding) (d : Binding) → 0 < length s → get_or (kinds s) 0 int ≡ (get_or s 0 d).type
-kinds-first [] d h = absurd (omega arith)
-kinds-first (b ∷ s) d h = refl
+-- the types of a scope's variables
+pub kinds_are : (ts : List Ty) (sc : List Entry) → kinds (map (binding_of ts) sc) ≡ map (λ b. type_at ts b.code) sc
+kinds_are ts [] = refl
+kinds_are ts (b ∷ sc) = ap (λ l. type_at ts b.code ∷ l) (kinds_are ts sc)
 
-kinds_none : (s : List Binding) → length s ≡ 0 → get_or (kinds s) 0 int ≡ int
-kinds_none [] h = refl
-kinds_none (b ∷ s) h = absurd (omega arith)
-
-module _ (c : Checker) (n : ℕ) (long : n ≡ vec_len c.scope) where
-  pub innermost_is : (b : Entry) → 0 < n → b ≡ get_or (vec_items c.scope) (n - 1) b → (b.code < length (known c)) × (type_in c b.code ≡ get_or (kinds (held c).scope) 0 int)
-  unfolding held
-  innermost_is b lt at =
-      let d : Binding = binding_of (known c) b in
-      let i : n - 1 < length (vec_items c.scope) = omega arith in
-      let first : binding_of (known c) b ≡ get_or (held c).scope 0 d = top_there (binding_of (known c)) (vec_items c.scope) n 0 (n - 1) b d (omega arith) lt (omega arith) at in (
-        subst (λ (x : Entry). x.code < length (known c)) (sym at) (under_at (λ (x : Entry). x.code) _ (sc c) (n - 1) b c.codes.0 i),
-        ap (λ (x : Binding). x.type) first ∙ sym (kinds-first (held c).scope d (omega (arith, scope_long c))),
-      )
-
-  pub innermost_none : n ≤ 0 → get_or (kinds (held c).scope) 0 int ≡ int
-  innermost_none h = kinds_none (held c).scope (omega (arith, scope_long c))
+pub map_or_is : {X : Type 0} (f : X → ℕ) (o : Option (Bor X)) (r : ℕ) (d : X) → MatchOption o (r ≡ f d) (λ x. r ≡ f x.now) → r ≡ f (unwrap_or (option_copied o) d)
+map_or_is f None r d h = h
+map_or_is f (Some x) r d h = h

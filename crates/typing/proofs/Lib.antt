@@ -1,10 +1,10 @@
-pub mod Same
 pub mod Lists
 pub mod Held
 pub mod Forking
 pub mod Finding
 pub mod Weighing
+pub mod Rules
 pub mod Steps
-pub mod Bracketing
 pub mod Growing
+pub mod Bracketing
 pub mod Ending

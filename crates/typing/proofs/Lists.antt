@@ -1,8 +1,13 @@
 -- Lists that grow at their end, read from there.
 use Rattle.std.proofs.Common.{◌≡◌, ℕ, suc, ◌+◌, ◌-◌, ◌<◌, ◌≤◌, ◌⊎◌, List, [], ◌∷◌, ◌++◌, map, reverse, length, get_or, take, drop, sym, refl, ap, ◌∙◌, subst, inl, inr, arith, length-drop, length-take}
 use lib.ListN.{length-reverse, length-map}
-use Rattle.std.proofs.lemmas.List.{reverse-append, take-append-drop, drop_at, drop_all, get_or_append_left, get_or_push, get_or_past, get_or_default, get_or-drop, get_or-take, get_or-map, get_or-reverse, length_push, map_push, take-map}
+use Rattle.std.proofs.Math.ListN.{get_or-map as get_or-map-default}
+use Rattle.std.proofs.lemmas.List.{reverse-append, take-append-drop, drop_at, drop_all, get_or_append_left, get_or_push, get_or_past, get_or-drop, get_or-take, get_or-map, get_or-reverse, length_push, map_push, take-map}
 use Rattle.std.proofs.lemmas.Bool.{cases_lt}
+use Rattle.std.specs.List.{slice_get}
+use Rattle.std.specs.Option.{unwrap_or}
+use Rattle.std.specs.Prelude.{Option}
+use Rattle.std.proofs.lemmas.Option.{unwrap_or-slice_get}
 use Rattle.typing.specs.Codes.{Under}
 
 pub reverse_push : {X : Type 0} (xs : List X) (x : X) → reverse (xs ++ x ∷ []) ≡ x ∷ reverse xs
@@ -56,33 +61,33 @@ under-take n m xs ys h e i = subst (λ zs. get_or zs i 0 < n) (sym e) (by (cases
 pub under_more : (n m : ℕ) (xs : List ℕ) → Under n xs → n ≤ m → Under m xs
 under_more n m xs h l i = omega (arith, h i, l)
 
--- what stands k below the top
-pub top_there : {X Y : Type 0} (f : X → Y) (xs : List X) (n k i : ℕ) (x : X) (e : Y) → n ≡ length xs → k < n → i ≡ n - 1 - k → x ≡ get_or xs i x → f x ≡ get_or (map f (reverse xs)) k e
-top_there f xs n k i x e en lt ei ex =
-    let at : length xs - 1 - k ≡ i = omega arith in
-    sym (get_or-map f (reverse xs) k x e (omega (arith, length-reverse xs)) ∙ ap f (get_or-reverse xs k x (omega arith) ∙ ap (λ j. get_or xs j x) at ∙ sym ex))
+-- what stands k below the top, or d
+pub top_is : {X Y : Type 0} (f : X → Y) (xs : List X) (k : ℕ) (d : X) (e : Y) → f d ≡ e → f (get_or (reverse xs) k d) ≡ get_or (drop k (map f (reverse xs))) 0 e
+top_is f xs k d e h =
+    let z : k + 0 ≡ k = omega arith in
+    sym (get_or-drop k (map f (reverse xs)) 0 e ∙ ap (λ i. get_or (map f (reverse xs)) i e) z ∙ ap (get_or (map f (reverse xs)) k) (sym h) ∙ get_or-map-default f (reverse xs) k d)
 
-pub top_past : {X Y : Type 0} (f : X → Y) (xs : List X) (k : ℕ) (e : Y) → length xs ≤ k → get_or (map f (reverse xs)) k e ≡ e
-top_past f xs k e h = get_or_past (map f (reverse xs)) k e (omega (arith, length-map (reverse xs) f, length-reverse xs))
-
-pub length-held : {X Y : Type 0} (f : X → Y) (xs : List X) → length (map f (reverse xs)) ≡ length xs
-length-held f xs = length-map (reverse xs) f ∙ length-reverse xs
-
-pub under_read : (n : ℕ) (xs : List ℕ) (i x : ℕ) → Under n xs → i < length xs → x ≡ get_or xs i x → x < n
-under_read n xs i x h l e = let P : ℕ → Type 0 = λ v. v < n in subst P (sym (e ∙ get_or_default xs i x 0 l)) (h i)
+-- the last, or d
+pub last_is : {X : Type 0} (xs : List X) (o : Option X) (d : X) → o ≡ slice_get xs (length xs - 1) → unwrap_or o d ≡ get_or (reverse xs) 0 d
+last_is xs o d e = ap (λ x. unwrap_or x d) e ∙ unwrap_or-slice_get xs (length xs - 1) d ∙ elim (cases_lt 0 (length xs)) [
+  | inl l ↦ let z : length xs - 1 - 0 ≡ length xs - 1 = omega arith in sym (get_or-reverse xs 0 d l ∙ ap (λ i. get_or xs i d) z)
+  | inr g ↦ get_or_past xs (length xs - 1) d (omega (arith, g)) ∙ sym (get_or_past (reverse xs) 0 d (omega (arith, length-reverse xs, g)))
+]
 
 pub under_at : {X : Type 0} (f : X → ℕ) (n : ℕ) (xs : List X) (i : ℕ) (d : X) → Under n (map f xs) → i < length xs → f (get_or xs i d) < n
 under_at f n xs i d h l = subst (λ v. v < n) (get_or-map f xs i d 0 l) (h i)
+
+pub under_last : {X : Type 0} (f : X → ℕ) (n : ℕ) (xs : List X) (d : X) → Under n (map f xs) → f d < n → f (get_or (reverse xs) 0 d) < n
+under_last f n xs d h l = elim (cases_lt 0 (length xs)) [
+  | inl m ↦ let i : length xs - 1 - 0 < length xs = omega arith in subst (λ x. f x < n) (sym (get_or-reverse xs 0 d m)) (under_at f n xs (length xs - 1 - 0) d h i)
+  | inr g ↦ subst (λ x. f x < n) (sym (get_or_past (reverse xs) 0 d (omega (arith, length-reverse xs, g)))) l
+]
+
+pub length-held : {X Y : Type 0} (f : X → Y) (xs : List X) → length (map f (reverse xs)) ≡ length xs
+length-held f xs = length-map (reverse xs) f ∙ length-reverse xs
 
 pub under_push_map : {X : Type 0} (f : X → ℕ) (n : ℕ) (xs ys : List X) (x : X) → Under n (map f xs) → f x < n → ys ≡ xs ++ x ∷ [] → Under n (map f ys)
 under_push_map f n xs ys x h l e = under_push n (map f xs) (map f ys) (f x) h l (ap (map f) e ∙ map_push f xs x)
 
 pub under-take-map : {X : Type 0} (f : X → ℕ) (n m : ℕ) (xs ys : List X) → Under n (map f xs) → ys ≡ take m xs → Under n (map f ys)
 under-take-map f n m xs ys h e = under-take n m (map f xs) (map f ys) h (ap (map f) e ∙ sym (take-map f m xs))
-
-pub below_top : {X : Type 0} (xs : List X) (k : ℕ) (d : X) {x : X} → x ≡ get_or xs k d → x ≡ get_or (drop k xs) 0 d
-below_top xs k d e = let z : k ≡ k + 0 = omega arith in e ∙ ap (λ i. get_or xs i d) z ∙ sym (get_or-drop k xs 0 d)
-
-pub under_slice : (n b m : ℕ) (xs ys : List ℕ) → Under n xs → ys ≡ xs → Under n (take m (drop b ys))
-under_slice n b m xs ys h e =
-    under-take n m (drop b ys) (take m (drop b ys)) (λ i. subst (λ v. v < n) (sym (get_or-drop b ys i 0 ∙ ap (λ l. get_or l (b + i) 0) e)) (h (b + i))) refl

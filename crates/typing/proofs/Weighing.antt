@@ -1,6 +1,8 @@
 -- The parts of the variables that were used.
-use Rattle.std.proofs.Common.{◌≡◌, ℕ, ◌+◌, ◌-◌, ◌<◌, ◌≤◌, Bool, true, false, cond, ltb, List, [], ◌∷◌, map, reverse, length, get_or, take, drop, set, replicate, sym, refl, ap, ◌∙◌, arith}
-use Rattle.std.proofs.lemmas.List.{drop_more, drop_all, get_or_default, length-set, take_rest, length-replicate}
+use Rattle.std.proofs.Common.{◌≡◌, ℕ, ◌-◌, ◌*◌, ◌≤◌, Bool, true, false, cond, ltb, List, [], ◌∷◌, map, length, take, drop, set, replicate, refl, ap, ◌∙◌, arith}
+use Rattle.std.specs.List.{sum_by, filter, zip}
+use Rattle.std.proofs.lemmas.List.Sums.{sum_by-cons}
+use Rattle.std.proofs.lemmas.List.{length-set, take_rest, length-replicate}
 use Rattle.types.specs.Types.{Ty}
 use Rattle.types.specs.Entries.{counted}
 use Rattle.lang.specs.Scope.{Binding}
@@ -8,66 +10,24 @@ use Rattle.judging.specs.Judging.{parts_used, used_at}
 use Rattle.typing.specs.Codes.{binding_of, type_at, replay}
 use Rattle.typing.specs.declared.parts.Binding.{Binding as Entry}
 use Rattle.typing.specs.declared.parts.Use.{Use}
-use Rattle.typing.proofs.Lists.{top_there, length-held}
 
-none_left : (us : List Bool) → parts_used [] us ≡ 0
-none_left [] = refl
-none_left (u ∷ us) = refl
+module _ (ts : List Ty) where
+  -- the parts of a variable, and whether it was used
+  abbrev pub parts_at : Entry × Bool → ℕ
+  parts_at p = counted (type_at ts p.0.code)
 
-module _ (ts : List Ty) (sc : List Entry) (skip : ℕ) (fl : List Bool) (total : ℕ) where
-  -- n is counted after j flags
-  abbrev pub Counting : ℕ → ℕ → Type 0
-  Counting j n = n + parts_used (drop (skip + j) (map (binding_of ts) (reverse sc))) (drop j fl) ≡ total
+  pub used_sum : (sc : List Entry) (us : List Bool) → sum_by parts_at (filter (λ p. p.1) (zip sc us)) ≡ parts_used (map (binding_of ts) sc) us
+  used_sum [] [] = refl
+  used_sum [] (u ∷ us) = refl
+  used_sum (b ∷ sc) [] = refl
+  used_sum (b ∷ sc) (true ∷ us) = omega (arith, sum_by-cons parts_at (b, true) (filter (λ p. p.1) (zip sc us)), used_sum sc us)
+  used_sum (b ∷ sc) (false ∷ us) = used_sum sc us
 
-module _ (ts : List Ty) (sc : List Entry) (skip : ℕ) (fl : List Bool) (total i sum : ℕ) where
-  abbrev S : List Binding
-  S = map (binding_of ts) (reverse sc)
-
-  abbrev Counted : ℕ → ℕ → Type 0
-  Counted = Counting ts sc skip fl total
-
-  pub count_out : length sc ≤ skip + i → Counted i sum → sum ≡ total
-  count_out le h =
-      let z : parts_used (drop (skip + i) S) (drop i fl) ≡ 0 =
-      ap (λ l. parts_used l (drop i fl)) (drop_all (skip + i) S (omega (arith, length-held (binding_of ts) sc))) ∙ none_left (drop i fl) in
-      omega (arith, h, z)
-
-  pub count-all : length fl ≤ i → Counted i sum → sum ≡ total
-  count-all le h =
-      let z : parts_used (drop (skip + i) S) (drop i fl) ≡ 0 = ap (parts_used (drop (skip + i) S)) (drop_all i fl le) in omega (arith, h, z)
-
-  module _ (d : Entry) (lt : skip + i < length sc) (within : i < length fl) where
-    abbrev u : Bool
-    u = get_or fl i false
-
-    abbrev b : Entry
-    b = get_or sc (length sc - 1 - (skip + i)) d
-
-    abbrev rest : ℕ
-    rest = parts_used (drop (skip + (i + 1)) S) (drop (i + 1) fl)
-
-    unrolled : parts_used (drop (skip + i) S) (drop i fl) ≡ cond u (counted (type_at ts b.code) + rest) rest
-    unrolled =
-        let e : Binding = binding_of ts b in
-        let at : length sc - 1 - (skip + i) < length sc = omega arith in
-        let same : b ≡ get_or sc (length sc - 1 - (skip + i)) b = get_or_default sc (length sc - 1 - (skip + i)) d b at in
-        let here : binding_of ts b ≡ get_or S (skip + i) e = top_there (binding_of ts) sc (length sc) (skip + i) (length sc - 1 - (skip + i)) b e refl lt refl same in
-        let next : skip + i + 1 ≡ skip + (i + 1) = omega arith in
-        let a : drop (skip + i) S ≡ binding_of ts b ∷ drop (skip + (i + 1)) S =
-        drop_more S (skip + i) e (omega (arith, length-held (binding_of ts) sc)) ∙ ap (λ x. x ∷ drop (skip + i + 1) S) (sym here) ∙ ap (λ k. binding_of ts b ∷ drop k S) next in
-        ap (λ l. parts_used l (drop i fl)) a ∙ ap (parts_used (binding_of ts b ∷ drop (skip + (i + 1)) S)) (drop_more fl i false within)
-
-    pub count-used : u ≡ true → (r n : ℕ) → r ≡ counted (type_at ts b.code) → n ≡ sum + r → Counted i sum → Counted (i + 1) n
-    count-used eu r n er en h =
-        let step : parts_used (drop (skip + i) S) (drop i fl) ≡ counted (type_at ts b.code) + rest =
-        unrolled ∙ ap (λ v. cond v (counted (type_at ts b.code) + rest) rest) eu in
-        omega (arith, step, h, er, en)
-
-    pub count_unused : u ≡ false → (n : ℕ) → n ≡ sum → Counted i sum → Counted (i + 1) n
-    count_unused eu n en h =
-        let step : parts_used (drop (skip + i) S) (drop i fl) ≡ rest =
-        unrolled ∙ ap (λ v. cond v (counted (type_at ts b.code) + rest) rest) eu in
-        omega (arith, step, h, en)
+pub used_few : (s : List Binding) (us : List Bool) → parts_used s us ≤ 1000000 * length us
+used_few s [] = omega arith
+used_few [] (u ∷ us) = omega arith
+used_few (b ∷ s) (true ∷ us) = omega (arith, used_few s us)
+used_few (b ∷ s) (false ∷ us) = omega (arith, used_few s us)
 
 -- as many flags as before
 length_cond : (t : Bool) (us : List Bool) (i : ℕ) → length (cond t us (set us i true)) ≡ length us

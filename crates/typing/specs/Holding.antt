@@ -1,13 +1,19 @@
 -- The state that the checker holds.
-use Rattle.std.specs.Prelude.{◌≡◌, ℕ, ◌^◌, ◌<◌, ◌≤◌, Bool, true, false, cond, List, length, vec_items, vec_len, Result, MatchResult, nat_le}
-use Rattle.std.proofs.Math.Option.{none}
-use Rattle.types.specs.Types.{Ty, int, bool, pair, list, parts, same}
+use Rattle.std.specs.Prelude.{◌≡◌, ℕ, ◌+◌, ◌^◌, ◌<◌, ◌≤◌, Bool, cond, List, length, vec_items, vec_len, Result, MatchResult}
+use Rattle.std.specs.declared.result.Result.TheVariants.{Ok, Err}
+use Rattle.types.specs.Types.{Ty, bool}
+use Rattle.types.specs.Entries.{ty_of, counted}
 use Rattle.types.specs.Table.{types_in, type_of}
-use Rattle.lang.specs.Outcome.{Out, ok, refused, refuse}
-use Rattle.lang.specs.Rules.{part_rule, list_rule, limit}
-use Rattle.typing.specs.Faults.{of_check}
+use Rattle.types.specs.declared.node.TypeNode.{TypeNode}
+use Rattle.grammar.specs.declared.occurrence.What.{What}
+use Rattle.lang.specs.Outcome.{Out, ok, refused}
+use Rattle.lang.specs.Rules.{Verdict, gives, unfit, large}
+use Rattle.typing.specs.Faults.{of_check, misfit_at}
 use Rattle.typing.specs.declared.fault.CheckFault.{CheckFault}
-use Rattle.judging.specs.Judging.{State, fork, top, popped, only, decide}
+use Rattle.typing.specs.declared.misfit.Misfit.{Misfit}
+use Rattle.typing.specs.declared.misfit.Misfit.TheVariants.{Unfit, TooLarge}
+use Rattle.judging.specs.Notes.{note}
+use Rattle.judging.specs.Judging.{State, fork, top, popped, pushed, noted, weighing, only, step}
 use Rattle.typing.specs.Codes.{holding, fork_of}
 use Rattle.typing.specs.declared.parts.Fork.{Fork as ForkEntry}
 use Rattle.typing.specs.declared.checker.Checker.{Checker}
@@ -42,44 +48,27 @@ pub record LastFork (c : Checker) (f : ForkEntry) : Type 0 where
 abbrev pub Judged : Out State → Checker → Result (Unit {0}) CheckFault → Type 0
 Judged out c r = MatchResult r (λ _. out ≡ ok (held c)) (λ f. out ≡ refused (of_check f))
 
--- a rule gives the type of a code, or refuses
-abbrev pub Ruled : Out Ty → Checker → Result ℕ CheckFault → Type 0
-Ruled out c r = MatchResult r (λ i. (i < length (known c)) × (out ≡ ok (type_in c i))) (λ f. out ≡ refused (of_check f))
+-- an occurrence was judged, wherever it stands
+abbrev pub Placed : (ℕ → Out State) → Checker → Result (Unit {0}) Misfit → Type 0
+Placed out c r = MatchResult r (λ _. (p : ℕ) → out p ≡ ok (held c)) (λ m. (p : ℕ) → out p ≡ refused (misfit_at p m))
 
--- whether two types are the same
-abbrev pub Is : Bool → Ty → Ty → Type 0
-Is true t u = t ≡ u
-Is false t u = same t u ≡ none
+abbrev pub Stepped : What → State → Checker → Result (Unit {0}) Misfit → Type 0
+Stepped w s c r = Placed (λ p. step w p s) c r
 
--- uppermost is a bool, or the place is refused
-abbrev pub Bools : Ty → ℕ → Result (Unit {0}) CheckFault → Type 0
-Bools t p r = MatchResult r (λ _. t ≡ bool) (λ f. (same t bool ≡ none) × (of_check f ≡ record { number = 6; place = p }))
+-- what a rule says, wherever it is asked
+abbrev pub outcome : {ts : List Ty} → Verdict ts → Result Ty Misfit
+outcome (gives t o) = Ok t
+outcome unfit = Err Unfit
+outcome large = Err TooLarge
 
-abbrev pub NotList : Ty → Type 0
-NotList int = Unit {0}
-NotList bool = Unit {0}
-NotList (pair a b) = Unit {0}
-NotList (list a) = ⊥
+-- a rule gives the type that a node is, or refuses
+abbrev pub Ruled : {ts : List Ty} → Verdict ts → Checker → Result TypeNode Misfit → Type 0
+Ruled v c r = MatchResult r (λ n. outcome v ≡ Ok (ty_of (known c) n)) (λ m. outcome v ≡ Err m)
 
-abbrev pub NotPair : Ty → Type 0
-NotPair int = Unit {0}
-NotPair bool = Unit {0}
-NotPair (pair a b) = ⊥
-NotPair (list a) = Unit {0}
+-- a node of this type over the k uppermost, which have n parts
+abbrev pub over : ℕ → ℕ → Ty → State → State
+over k n t s = noted (note t) (weighing (1 + n + counted t) (pushed t (popped k s)))
 
 -- the filter's type is off the stack
 abbrev pub filter_of : ℕ → Bool → State → Out State
 filter_of p filtered s = cond filtered (only (top s) bool p (popped 1 s)) (ok s)
-
--- a list of elements of a type, with their code, or the place is refused
-abbrev pub Folds : Ty → Ty → ℕ → Checker → Result ℕ CheckFault → Type 0
-Folds t u p c r = MatchResult r (λ i. (i < length (known c)) × (type_in c i ≡ u) × (t ≡ list u)) (λ f. (same t (list u) ≡ none) × (of_check f ≡ record { number = 6; place = p }))
-
--- a list that can be cut into parts
-abbrev pub Parts : Ty → Ty → ℕ → Result (Unit {0}) CheckFault → Type 0
-Parts t u p r = MatchResult r (λ _. ((e : Ty) × (t ≡ list e)) × (u ≡ list int)) (λ f. decide p (part_rule t u) ≡ refused (of_check f))
-
--- elements in brackets have the type of a code, whose lists may still be too large; or they are refused
-abbrev pub Bracketed : List Ty → ℕ → Checker → Result ℕ CheckFault → Type 0
-Bracketed ts p c r =
-    MatchResult r (λ i. (i < length (known c)) × (decide p (list_rule ts) ≡ cond (nat_le (parts (list (type_in c i))) limit) (ok (list (type_in c i))) (refuse 7 p))) (λ f. decide p (list_rule ts) ≡ refused (of_check f))

@@ -1,4 +1,5 @@
 pub mod Faults
 pub mod Codes
+pub mod Nodes
 pub mod Holding
 pub mod Elements

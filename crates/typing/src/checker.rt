@@ -1,7 +1,6 @@
 // The checker's memory.
 mod brackets;
 mod forks;
-mod intern;
 mod joins;
 mod judge;
 mod leaves;

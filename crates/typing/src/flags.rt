@@ -12,7 +12,7 @@ pub fn fill(flags: &mut Vec<bool>, n: usize)
     ensures capacity { vec_capacity flags.new ≡ vec_capacity flags.old }
 {
     flags.clear();
-    for _i in 0..n {
+    for _ in 0..n {
         flags.push_reserved(false);
     }
 }
@@ -23,12 +23,10 @@ fn note_use(flags: &mut Vec<bool>, used: Use)
     ensures capacity { vec_capacity flags.new ≡ vec_capacity flags.old }
 {
     let inside = used.depth.saturating_sub(flags.len());
-    if used.index < inside {
-        return;
-    }
-    let at = used.index - inside;
-    if at < flags.len() {
-        flags[at] = true;
+    if let Some(at) = used.index.checked_sub(inside) {
+        if let Some(flag) = flags.get_mut(at) {
+            *flag = true;
+        }
     }
 }
 

@@ -5,5 +5,5 @@ pub mod checker;
 pub mod elements;
 pub mod fault;
 pub mod flags;
-pub mod name;
+mod misfit;
 pub mod parts;

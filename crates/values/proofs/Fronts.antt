@@ -1,14 +1,10 @@
 -- Beginnings of texts.
-use Rattle.std.proofs.Common.{◌≡◌, ℕ, ◌<◌, ◌≤◌, List, [], length, take, sym, ap, ◌∙◌, ⊎_elim, append-nil, arith, length-take}
-use Rattle.std.proofs.lemmas.List.{take_all, length-take-le}
-use Rattle.std.proofs.lemmas.Bool.{cases_lt}
+use Rattle.std.proofs.Common.{◌≡◌, ℕ, ◌<◌, ◌≤◌, List, [], length, take, sym, ap, ◌∙◌, append-nil, arith, length-take}
+use Rattle.std.proofs.lemmas.List.{take_min}
 use Rattle.values.specs.Reading.{Begins, ReadsFront}
 
 take-length : (s : List ℕ) (k : ℕ) → take (length (take k s)) s ≡ take k s
-take-length s k = ⊎_elim
-    (λ (lt : k < length s). ap (λ i. take i s) (length-take-le k s (omega arith)))
-    (λ (le : length s ≤ k). ap (λ xs. take (length xs) s) (take_all k s le) ∙ take_all (length s) s (omega arith) ∙ sym (take_all k s le))
-    (cases_lt k (length s))
+take-length s k = rw length-take (take_min k s)
 
 module _ {X : Type 0} (text : X → List ℕ) (s : List ℕ) where
   -- a beginning that is a text, by the text's length

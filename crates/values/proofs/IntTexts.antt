@@ -1,11 +1,11 @@
 -- Reading the text of an int, from reading its magnitude.
-use Rattle.std.proofs.Common.{◌≡◌, ℕ, zero, suc, ◌+◌, ◌-◌, ◌^◌, ◌<◌, ◌≤◌, List, [], ◌∷◌, ◌++◌, length, get_or, take, drop, ℤ, pos, negsuc, decimal, sym, refl, ap, ◌∙◌, subst, ⊎_elim, add-one, arith, lit<, length-append, length-take}
+use Rattle.std.proofs.Common.{◌≡◌, ℕ, zero, suc, ◌+◌, ◌-◌, ◌^◌, ◌<◌, ◌≤◌, List, [], ◌∷◌, ◌++◌, length, get_or, take, ℤ, pos, negsuc, decimal, sym, refl, ap, ◌∙◌, ⊎_elim, add-one, arith, lit<, length-append, length-take}
 use lib.Signed.{mag}
 use mir.Val.{hbits}
 use Rattle.std.specs.Int.{IsInRange}
 use Rattle.std.specs.Fmt.{signed_decimal}
 use Rattle.std.proofs.lemmas.Fmt.{decimal_nonempty, decimal_digit, first_decimal, signed_decimal_injective}
-use Rattle.std.proofs.lemmas.List.{take_at, take_rest, drop_more, get_or-take, get_or_append_left, length-take-le}
+use Rattle.std.proofs.lemmas.List.{take_at, get_or-take, get_or_append_left, length-take-le}
 use Rattle.std.proofs.lemmas.Bool.{cases_lt}
 use Rattle.monoid.specs.declared.int.Int.{Int}
 use Rattle.monoid.specs.Ints.{width, int_zero}
@@ -108,26 +108,6 @@ module _ (t : List ℕ) (value n : ℕ) (reads : ReadsMagnitude (2 ^ hbits width
       none (negsuc j) small x k is e =
           let long : 1 < length (int_text x) = omega (arith, ap (λ v. length (signed_decimal v)) is, decimal_nonempty (suc j) (omega arith)) in
           stop_past z (length (int_text x)) long (whole_within int_text (45 ∷ t) x k e) (whole_begins int_text (45 ∷ t) x k e)
-
--- past the end there is no such byte
-pub some_byte : (s : List ℕ) → get_or s 0 0 ≡ 45 → 0 < length s
-some_byte [] e = absurd (omega arith)
-some_byte (b ∷ s) e = omega arith
-
--- ---- as the code cuts it: the sign, and the rest
-module _ (s : List ℕ) (minus : get_or s 0 0 ≡ 45) where
-  cut-sign : s ≡ 45 ∷ drop 1 s
-  cut-sign = drop_more s 0 0 (some_byte s minus) ∙ ap (λ b. b ∷ drop 1 s) minus
-
-  module _ (value n : ℕ) (reads : ReadsMagnitude (2 ^ hbits width) (take (length s - 1) (drop 1 s)) value n) where
-    behind : ReadsMagnitude (2 ^ hbits width) (drop 1 s) value n
-    behind = rw (take_rest s 1) at reads
-
-    pub negative_reads : (x : Int) → (value ≡ 0 → ⊥) → x.value ≡ negsuc (value - 1) → ReadsFront int_text s x (n + 1)
-    negative_reads x some e = subst (λ t. ReadsFront int_text t x (n + 1)) (sym cut-sign) (minus_reads (drop 1 s) value n behind x (omega arith) e)
-
-    pub negative_stops : value ≡ 0 → StopsAt int_text s 1
-    negative_stops z = subst (λ t. StopsAt int_text t 1) (sym cut-sign) (minus_stops (drop 1 s) value n behind z)
 
 -- ---- texts of ints one behind the other
 text_some : (z : ℤ) → mag z < 2 ^ hbits width → signed_decimal z ≡ [] → ⊥

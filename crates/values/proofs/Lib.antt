@@ -1,5 +1,4 @@
 pub mod Decimals
-pub mod Digits
 pub mod Fronts
 pub mod IntTexts
 pub mod Lists

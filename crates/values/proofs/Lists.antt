@@ -1,22 +1,24 @@
 -- Reading a list, from reading its elements.
-use Rattle.std.proofs.Common.{◌≡◌, ℕ, zero, suc, ◌+◌, ◌-◌, ◌<◌, ◌≤◌, Bool, true, false, ◌⊎◌, List, [], ◌∷◌, ◌++◌, length, get_or, take, drop, sym, refl, ap, ◌∙◌, ap₂, inl, inr, ⊎_elim, append_assoc, append-nil, arith, length-append, length-drop, take-append-drop}
-use Rattle.std.proofs.lemmas.List.{take-take, take_at, take-append-le, take_more, drop-take, length-take-le, get_or-take, get_or-drop, get_or_at, get_or_append_left}
+use Rattle.std.proofs.Common.{◌≡◌, ℕ, zero, suc, ◌+◌, ◌-◌, ◌<◌, ◌≤◌, ◌⊎◌, List, [], ◌∷◌, ◌++◌, length, get_or, take, drop, sym, refl, ap, ◌∙◌, ap₂, inl, inr, ⊎_elim, append_assoc, append-nil, arith, length-append, length-drop, take-append-drop}
+use Rattle.std.proofs.Math.Seq.{take-add}
+use Rattle.std.proofs.lemmas.List.{take-take, take_at, take-append-le, take_more, length-take-le, get_or-take, get_or-drop, get_or_at, get_or_append_left}
 use Rattle.std.proofs.lemmas.Bool.{cases_lt}
+use Rattle.std.proofs.lemmas.Grind.{common_steps}
+use Rattle.std.proofs.Common.{rules}
 use Rattle.values.specs.Reading.{Begins, Longest, ReadsFront, StopsAt}
 use Rattle.values.specs.Texts.{more_text, list_text}
-use Rattle.values.specs.Lists.{sign_of, ElementIs, NoElement, each_text, Opened}
+use Rattle.values.specs.Signs.{byte_of}
+use Rattle.values.specs.declared.sign.Sign.{Sign}
+use Rattle.values.specs.declared.sign.Sign.TheVariants.{Comma, Bracket}
+use Rattle.values.specs.Lists.{Separate, ElementIs, NoElement, each_text, Opened}
 use Rattle.values.proofs.Fronts.{whole_is, whole_within}
-use Rattle.values.proofs.Separate.{Separate, Sign, no_digit, more_sign, split, no_bracket, list_free, free_reads, same_head, same_tail}
-
--- the beginning of s past its first n bytes
-pub take_past : (n m : ℕ) (s : List ℕ) → take (n + m) s ≡ take n s ++ take m (drop n s)
-take_past n m s = sym (take-append-drop n (take (n + m) s)) ∙ ap₂ (λ (a b : List ℕ). a ++ b) (take-take n (n + m) s (omega arith)) (drop-take n m s)
+use Rattle.values.proofs.Separate.{IsSign, no_digit, more_sign, split, no_bracket, list_free, free_reads, same_head, same_tail}
 
 -- a beginning, and the byte behind it
 take_over : (k m : ℕ) (s : List ℕ) → k < m → m ≤ length s → take m s ≡ take k s ++ (get_or s k 0 ∷ take (m - (k + 1)) (drop (k + 1) s))
 take_over k m s less fits =
     let so : k + 1 + (m - (k + 1)) ≡ m = omega arith in
-    ap (λ i. take i s) (sym so) ∙ take_past (k + 1) (m - (k + 1)) s
+    ap (λ i. take i s) (sym so) ∙ take-add (k + 1) (m - (k + 1)) s
     ∙ ap (λ p. p ++ take (m - (k + 1)) (drop (k + 1) s)) (take_more s k 0 (omega arith))
     ∙ append_assoc (take k s) (get_or s k 0 ∷ []) (take (m - (k + 1)) (drop (k + 1) s))
 
@@ -31,7 +33,7 @@ module _ {X : Type 0} (text : X → List ℕ) where
   open_on [] y ys = refl
   open_on (x ∷ xs) y ys = ap (λ t. 91 ∷ (text x ++ t)) (each_on xs y ys) ∙ ap (λ t. 91 ∷ t) (sym (append_assoc (text x) (44 ∷ each_text text xs) (text y ++ more_text text ys)))
 
-  each_push : (xs : List X) (x : X) → each_text text (xs ++ (x ∷ [])) ≡ each_text text xs ++ (text x ++ (44 ∷ []))
+  pub each_push : (xs : List X) (x : X) → each_text text (xs ++ (x ∷ [])) ≡ each_text text xs ++ (text x ++ (44 ∷ []))
   each_push [] x = refl
   each_push (y ∷ xs) x = ap (λ t. text y ++ (44 ∷ t)) (each_push xs x) ∙ sym (append_assoc (text y) (44 ∷ each_text text xs) (text x ++ (44 ∷ [])))
 
@@ -59,7 +61,7 @@ module _ {X : Type 0} (text : X → List ℕ) where
       longest_of = ⊎_elim (λ (s : StopsAt text rest n). s.longest) (λ w. w.1.longest) stop
 
       -- an element whose text is a beginning of what is there, with its sign behind it
-      blocked : (y : X) (m : ℕ) → Sign m → (l : ℕ) → l < length rest → take l rest ≡ text y → get_or rest l 0 ≡ m → ⊥
+      blocked : (y : X) (m : ℕ) → IsSign m → (l : ℕ) → l < length rest → take l rest ≡ text y → get_or rest l 0 ≡ m → ⊥
       blocked y m sign l within is byte = ⊎_elim
           (λ (s : StopsAt text rest n). s.none y l is)
           (λ (w : (x : X) × ReadsFront text rest x n × (get_or rest n 0 ≡ 44 → ⊥) × (get_or rest n 0 ≡ 93 → ⊥)). ⊎_elim
@@ -100,7 +102,7 @@ module _ {X : Type 0} (text : X → List ℕ) where
       -- ---- the list
       module _ (s : List ℕ) (xs : List X) (at : ℕ) (opened : Opened text s xs at) (is-rest : drop at s ≡ rest) where
         cut_at : (m : ℕ) → take (at + m) s ≡ (91 ∷ each_text text xs) ++ take m rest
-        cut_at m = take_past at m s ∙ ap₂ (λ (a b : List ℕ). a ++ b) opened.is (ap (take m) is-rest)
+        cut_at m = take-add at m s ∙ ap₂ (λ (a b : List ℕ). a ++ b) opened.is (ap (take m) is-rest)
 
         rest_long : length rest ≡ length s - at
         rest_long = ap length (sym is-rest) ∙ length-drop at s
@@ -166,71 +168,31 @@ module _ {X : Type 0} (text : X → List ℕ) where
 
     -- ---- an element and its sign
     module _ (s : List ℕ) (xs : List X) (at : ℕ) (opened : Opened text s xs at) (x : X) (k : ℕ) where
-      module _ (last : Bool) (element : ElementIs text (drop at s) x last k) where
+      module _ (sign : Sign) (element : ElementIs text (drop at s) x sign k) where
         next_within : at + k ≤ length s
         next_within = omega (arith, element.within, length-drop at s, opened.within)
 
-        next_is : take (at + k) s ≡ (91 ∷ each_text text xs) ++ (text x ++ (sign_of last ∷ []))
-        next_is = take_past at k s ∙ ap₂ (λ (a b : List ℕ). a ++ b) opened.is element.is
+        next_is : take (at + k) s ≡ (91 ∷ each_text text xs) ++ (text x ++ (byte_of sign ∷ []))
+        next_is = take-add at k s ∙ ap₂ (λ (a b : List ℕ). a ++ b) opened.is element.is
 
-      pub element_opens : ElementIs text (drop at s) x false k → Opened text s (xs ++ (x ∷ [])) (at + k)
+      pub element_opens : ElementIs text (drop at s) x Comma k → Opened text s (xs ++ (x ∷ [])) (at + k)
       element_opens element = record {
-        within = next_within false element;
-        is = next_is false element ∙ ap (λ t. 91 ∷ t) (sym (each_push xs x));
+        within = next_within Comma element;
+        is = next_is Comma element ∙ ap (λ t. 91 ∷ t) (sym (each_push xs x));
         some = λ z. absurd (omega (arith, length-append xs (x ∷ [])));
       }
 
-      pub element_closes : ElementIs text (drop at s) x true k → ReadsFront (list_text text) s (xs ++ (x ∷ [])) (at + k)
+      pub element_closes : ElementIs text (drop at s) x Bracket k → ReadsFront (list_text text) s (xs ++ (x ∷ [])) (at + k)
       element_closes element =
-          free_reads (list_text text) (list_free text separate) s (xs ++ (x ∷ [])) (at + k) (next_within true element) (next_is true element ∙ sym (open_on xs x []))
+          free_reads (list_text text) (list_free text separate) s (xs ++ (x ∷ [])) (at + k) (next_within Bracket element) (next_is Bracket element ∙ sym (open_on xs x []))
 
   -- ---- the first byte, and an empty list
   module _ (s : List ℕ) where
     pub not_opened : (get_or s 0 0 ≡ 91 → ⊥) → StopsAt (list_text text) s 0
-    not_opened other = record {
-      none = λ vs k e. by_none vs k e;
-      longest = record { within = omega arith; begins = record { value = []; rest = 91 ∷ 93 ∷ []; is = refl }; beyond = λ k past fits b. other (first s k past fits b.rest b.value b.is) };
-    }
-      where
-        head : (vs : List X) → get_or (list_text text vs) 0 0 ≡ 91
-        head [] = refl
-        head (v ∷ vs) = refl
-
-        first : (s : List ℕ) (k : ℕ) → 0 < k → k ≤ length s → (r : List ℕ) (vs : List X) → list_text text vs ≡ take k s ++ r → get_or s 0 0 ≡ 91
-        first s zero past fits r vs e = absurd (omega arith)
-        first [] (suc k) past fits r vs e = absurd (omega arith)
-        first (b ∷ s) (suc k) past fits r vs e = sym (ap (λ t. get_or t 0 0) e) ∙ head vs
-
-        by_none : (vs : List X) (k : ℕ) → take k s ≡ list_text text vs → ⊥
-        by_none vs k e =
-            let is = whole_is (list_text text) s vs k e in
-            let some : 0 < length (list_text text vs) = nonempty vs in
-            other (first s (length (list_text text vs)) some (whole_within (list_text text) s vs k e) [] vs (is ∙ sym (append-nil _)))
-          where
-            nonempty : (vs : List X) → 0 < length (list_text text vs)
-            nonempty [] = omega arith
-            nonempty (v ∷ vs) = omega arith
+    not_opened other = search (rules, common_steps)
 
     pub just_opened : get_or s 0 0 ≡ 91 → (get_or s 1 0 ≡ 93 → ⊥) → Opened text s [] 1
-    just_opened e other = record { within = long s e; is = one s e; some = λ _. other }
-      where
-        long : (s : List ℕ) → get_or s 0 0 ≡ 91 → 1 ≤ length s
-        long [] e = absurd (omega arith)
-        long (b ∷ s) e = omega arith
-
-        one : (s : List ℕ) → get_or s 0 0 ≡ 91 → take 1 s ≡ 91 ∷ []
-        one [] e = absurd (omega arith)
-        one (b ∷ s) e = ap (λ c. c ∷ []) e
+    just_opened e other = grind (arith, common_steps)
 
     pub empty_read : Separate text → get_or s 0 0 ≡ 91 → get_or s 1 0 ≡ 93 → ReadsFront (list_text text) s [] 2
-    empty_read separate e f = free_reads (list_text text) (list_free text separate) s [] 2 (long s e f) (two s e f)
-      where
-        long : (s : List ℕ) → get_or s 0 0 ≡ 91 → get_or s 1 0 ≡ 93 → 2 ≤ length s
-        long [] e f = absurd (omega arith)
-        long (a ∷ []) e f = absurd (omega arith)
-        long (a ∷ b ∷ s) e f = omega arith
-
-        two : (s : List ℕ) → get_or s 0 0 ≡ 91 → get_or s 1 0 ≡ 93 → take 2 s ≡ 91 ∷ 93 ∷ []
-        two [] e f = absurd (omega arith)
-        two (a ∷ []) e f = absurd (omega arith)
-        two (a ∷ b ∷ s) e f = ap₂ (λ (c d : ℕ). c ∷ d ∷ []) e f
+    empty_read separate e f = free_reads (list_text text) (list_free text separate) s [] 2 (search (rules, common_steps)) (search (rules, common_steps))

@@ -1,16 +1,11 @@
 -- Texts that can be told apart where they stand one behind the other.
-use Rattle.std.proofs.Common.{◌≡◌, ℕ, ◌<◌, ◌≤◌, ◌⊎◌, List, [], ◌∷◌, ◌++◌, length, take, drop, sym, refl, ap, ◌∙◌, ap₂, inl, inr, ⊎_elim, append_assoc, arith, length-drop, take-append-drop}
+use Rattle.std.proofs.Common.{◌≡◌, ℕ, ◌<◌, ◌≤◌, ◌⊎◌, List, [], ◌∷◌, ◌++◌, length, take, drop, sym, refl, ap, subst, ◌∙◌, ap₂, inl, inr, ⊎_elim, append_assoc, arith, length-drop, take-append-drop}
 use Rattle.std.specs.Int.{IsInRange}
 use Rattle.std.proofs.lemmas.List.{take-take, length-take-le}
+pub use Rattle.values.specs.Lists.{Separate}
 use Rattle.values.specs.Reading.{Begins, ReadsFront}
 use Rattle.values.specs.Texts.{more_text, list_text}
 use Rattle.values.proofs.Fronts.{read_front}
-
--- a text is never empty, never begins with a closing bracket, and goes on to another text only with a digit
-pub record Separate {X : Type 0} (text : X → List ℕ) : Type 0 where
-  pub some : (x : X) → text x ≡ [] → ⊥
-  pub opens : (x : X) (r : List ℕ) → text x ≡ 93 ∷ r → ⊥
-  pub goes_on : (x y : X) (c : ℕ) (r : List ℕ) → text x ≡ text y ++ c ∷ r → IsInRange 48 57 c
 
 -- and some texts go on to no other at all
 abbrev pub PrefixFree : {X : Type 0} → (X → List ℕ) → Type 0
@@ -23,44 +18,44 @@ pub same_tail : {a b : ℕ} {xs ys : List ℕ} → a ∷ xs ≡ b ∷ ys → xs 
 same_tail e = cc
 
 -- two lists of two parts each that are the same: the first parts are, or one goes on into the second part of the other
-data Meet (xs : List ℕ) (a : ℕ) (us ys : List ℕ) (b : ℕ) (bs : List ℕ) : Type 0 where
-  even : xs ≡ ys → a ∷ us ≡ b ∷ bs → Meet xs a us ys b bs
-  left_short : (r : List ℕ) → ys ≡ xs ++ a ∷ r → Meet xs a us ys b bs
-  right_short : (r : List ℕ) → xs ≡ ys ++ b ∷ r → Meet xs a us ys b bs
+pub data Cut (xs us ys bs : List ℕ) : Type 0 where
+  even : xs ≡ ys → us ≡ bs → Cut xs us ys bs
+  left_short : (c : ℕ) (r : List ℕ) → ys ≡ xs ++ (c ∷ r) → us ≡ (c ∷ r) ++ bs → Cut xs us ys bs
+  right_short : (c : ℕ) (r : List ℕ) → xs ≡ ys ++ (c ∷ r) → bs ≡ (c ∷ r) ++ us → Cut xs us ys bs
 
-meet : (xs : List ℕ) (a : ℕ) (us ys : List ℕ) (b : ℕ) (bs : List ℕ) → xs ++ a ∷ us ≡ ys ++ b ∷ bs → Meet xs a us ys b bs
-meet [] a us [] b bs e = even refl e
-meet [] a us (y ∷ ys) b bs e = left_short ys (ap (λ c. c ∷ ys) (sym (same_head e)))
-meet (x ∷ xs) a us [] b bs e = right_short xs (ap (λ c. c ∷ xs) (same_head e))
-meet (x ∷ xs) a us (y ∷ ys) b bs e = grow (meet xs a us ys b bs (same_tail e))
+pub cut_both : (xs us ys bs : List ℕ) → xs ++ us ≡ ys ++ bs → Cut xs us ys bs
+cut_both [] us [] bs e = even refl e
+cut_both [] us (y ∷ ys) bs e = left_short y ys refl e
+cut_both (x ∷ xs) us [] bs e = right_short x xs refl (sym e)
+cut_both (x ∷ xs) us (y ∷ ys) bs e = grow (cut_both xs us ys bs (same_tail e))
   where
-    grow : Meet xs a us ys b bs → Meet (x ∷ xs) a us (y ∷ ys) b bs
-    grow (even p q) = even (ap (λ zs. x ∷ zs) p ∙ ap (λ c. c ∷ ys) (same_head e)) q
-    grow (left_short r p) = left_short r (ap (λ c. c ∷ ys) (sym (same_head e)) ∙ ap (λ zs. x ∷ zs) p)
-    grow (right_short r p) = right_short r (ap (λ c. c ∷ xs) (same_head e) ∙ ap (λ zs. y ∷ zs) p)
+    grow : Cut xs us ys bs → Cut (x ∷ xs) us (y ∷ ys) bs
+    grow (even p q) = even (cc) q
+    grow (left_short c r p q) = left_short c r (cc) q
+    grow (right_short c r p q) = right_short c r (cc) q
 
 abbrev pub NoDigit : ℕ → Type 0
 NoDigit c = IsInRange 48 57 c → ⊥
 
 -- what stands behind an element
-abbrev pub Sign : ℕ → Type 0
-Sign c = (c ≡ 44) ⊎ (c ≡ 93)
+abbrev pub IsSign : ℕ → Type 0
+IsSign c = (c ≡ 44) ⊎ (c ≡ 93)
 
-pub no_digit : (c : ℕ) → Sign c → NoDigit c
+pub no_digit : (c : ℕ) → IsSign c → NoDigit c
 no_digit c sign d = ⊎_elim (λ (e : c ≡ 44). omega (arith, d.0)) (λ (e : c ≡ 93). omega (arith, d.1)) sign
 
-pub more_sign : {X : Type 0} (text : X → List ℕ) (xs : List X) → (c : ℕ) × (r : List ℕ) × Sign c × (more_text text xs ≡ c ∷ r)
+pub more_sign : {X : Type 0} (text : X → List ℕ) (xs : List X) → (c : ℕ) × (r : List ℕ) × IsSign c × (more_text text xs ≡ c ∷ r)
 more_sign text [] = (93, [], inr refl, refl)
 more_sign text (x ∷ xs) = (44, text x ++ more_text text xs, inl refl, refl)
 
 module _ {X : Type 0} (text : X → List ℕ) (separate : Separate text) where
   pub split : (u v : X) (a b : ℕ) (us bs : List ℕ) → NoDigit a → NoDigit b → text u ++ a ∷ us ≡ text v ++ b ∷ bs → (text u ≡ text v) × (a ∷ us ≡ b ∷ bs)
-  split u v a b us bs p q e = by (meet (text u) a us (text v) b bs e)
+  split u v a b us bs p q e = by (cut_both (text u) (a ∷ us) (text v) (b ∷ bs) e)
     where
-      by : Meet (text u) a us (text v) b bs → (text u ≡ text v) × (a ∷ us ≡ b ∷ bs)
+      by : Cut (text u) (a ∷ us) (text v) (b ∷ bs) → (text u ≡ text v) × (a ∷ us ≡ b ∷ bs)
       by (even s t) = (s, t)
-      by (left_short r s) = absurd (p (separate.goes_on v u a r s))
-      by (right_short r s) = absurd (q (separate.goes_on u v b r s))
+      by (left_short c r s t) = absurd (p (subst (IsInRange 48 57) (sym (same_head t)) (separate.goes_on v u c r s)))
+      by (right_short c r s t) = absurd (q (subst (IsInRange 48 57) (sym (same_head t)) (separate.goes_on u v c r s)))
 
   pub no_bracket : (v : X) (r t : List ℕ) → 93 ∷ r ≡ text v ++ t → ⊥
   no_bracket v r t e = by (text v) refl e

@@ -2,6 +2,9 @@
 #![tactic(auto)]
 
 pub mod fault;
+pub mod front;
 pub mod int_text;
+mod list;
 pub mod print;
 pub mod rows;
+pub mod sign;

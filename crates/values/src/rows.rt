@@ -1,12 +1,17 @@
 // The text of a list of rows, each a list of ints.
-ghost use Rattle.std.specs.Prelude.{◌≡◌, ℕ, ◌+◌, ◌^◌, ◌<◌, ◌≤◌, [], length, MatchResult, slice_index};
+ghost use Rattle.std.specs.Prelude.{◌≡◌, ℕ, ◌^◌, ◌<◌, List, [], ◌∷◌, ◌++◌, length, sum, MatchResult};
+ghost use Rattle.monoid.specs.declared.int.Int.{Int as TheInt};
 ghost use Rattle.values.specs.Texts.{int_text, row_text, rows_text};
-ghost use Rattle.values.specs.Reading.{StopsAt, NoText};
-ghost use Rattle.values.specs.Rows.{Stopping, fault_behind, Signs, StopsElement, AddsInt, AddsRow, AddsRowAt, ReadsRows, RowsRead};
+ghost use Rattle.values.specs.Reading.{NoText};
+ghost use Rattle.values.specs.Rows.{Stopping, RowsRead};
+ghost use Rattle.values.specs.declared.fault.ReadFault.TheVariants.{NoValue};
 
 use crate::fault::ReadFault;
-use crate::int_text::{byte_at, read_int};
+use crate::front::Stopped;
+use crate::int_text::read_int;
+use crate::list::{Elements, read_list};
 use monoid::int::Int;
+use monoid::segmented::Segments;
 use std::alloc::Global;
 
 // Rows side by side: all their ints, and the length of each.
@@ -14,130 +19,64 @@ use std::alloc::Global;
 pub struct Rows {
     pub ints: Vec<Int>,
     pub lengths: Vec<usize>,
+    ghost covered: { sum lengths.items ≡ length ints.items },
 }
 
-// An element of a list with the sign behind it: their length, and whether the sign is the bracket.
-#[derive(Clone, Copy)]
-struct Element {
-    length: usize,
-    last: bool,
-}
-
-// A row at the beginning of a text: how many ints it has, and the length of its text.
-#[derive(Clone, Copy)]
-struct ReadRow {
-    count: usize,
-    length: usize,
-}
-
-impl ReadFault {
-    // The same of a text that stands behind `at` bytes.
-    fn behind(self, at: usize) -> ReadFault
-        requires { Stopping (λ place. at + place < 2 ^ 64) self }
-        ensures { result ≡ fault_behind at self }
+impl Rows {
+    // There are few enough rows, as a length takes eight bytes.
+    pub fn segments(&self) -> Segments<'_, Int>
+        ensures elements { result.elements.now ≡ self.now.ints.items }
+        ensures lengths { result.lengths.now ≡ self.now.lengths.items }
+        ensures few { length result.lengths.now < 2 ^ 60 }
     {
-        match self {
-            ReadFault::NoValue(place) => ReadFault::NoValue(at + place),
-            ReadFault::Memory => ReadFault::Memory,
+        Segments {
+            elements: self.ints.as_slice(),
+            lengths: self.lengths.as_slice(),
         }
     }
 }
 
-// The sign at a place: false for a comma, true for the bracket.
-fn sign_at(text: &[u8], at: usize) -> Option<bool>
-    ensures { Signs (slice_index text.now at) result }
-{
-    match byte_at(text, at) {
-        b',' => Some(false),
-        b']' => Some(true),
-        _ => None,
+impl From<Stopped> for ReadFault {
+    ghost from_gives = { λ stop f. f ≡ NoValue stop.length };
+
+    fn from(stop: Stopped) -> ReadFault {
+        ReadFault::NoValue(stop.length)
     }
 }
 
-// Adds the int at a place, which has to have a sign behind it.
-fn add_int(text: &[u8], at: usize, ints: &mut Vec<Int>) -> Result<Element, ReadFault>
-    requires { at ≤ length text.now }
-    ensures { MatchResult result (λ e. AddsInt text.now at e.last e.length ints.old.items ints.new.items) (λ f. Stopping (StopsElement int_text text.now at) f) }
-{
-    match read_int(&text[at..]) {
-        Err(stop) => Err(ReadFault::NoValue(at + stop.length)),
-        Ok(read) => {
-            let end = at + read.length;
-            let Some(last) = sign_at(text, end) else {
-                return Err(ReadFault::NoValue(end));
-            };
-            ints.push(read.value)?;
-            Ok(Element {
-                length: read.length + 1,
-                last,
-            })
-        }
+impl Elements for Vec<Int> {
+    ghost Element = { TheInt };
+
+    ghost spelled = { int_text };
+
+    ghost Keeps = { λ before x after. after.items ≡ before.items ++ (x ∷ []) };
+
+    fn read_element(&mut self, text: &[u8]) -> Result<usize, ReadFault> {
+        let read = read_int(text)?;
+        self.push(read.value)?;
+        Ok(read.length)
     }
 }
 
-// Adds the ints of the row at the beginning of the text.
-fn add_row(text: &[u8], ints: &mut Vec<Int>) -> Result<ReadRow, ReadFault>
-    ensures { MatchResult result (λ row. AddsRow text.now row.count row.length ints.old.items ints.new.items) (λ f. Stopping (StopsAt row_text text.now) f) }
-{
-    if byte_at(text, 0) != b'[' {
-        return Err(ReadFault::NoValue(0));
-    }
-    if byte_at(text, 1) == b']' {
-        return Ok(ReadRow {
-            count: 0,
-            length: 2,
-        });
-    }
-    let mut at = 1;
-    let mut count = 0;
-    loop {
-        let element = add_int(text, at, ints)?;
-        at += element.length;
-        count += 1;
-        if element.last {
-            return Ok(ReadRow { count, length: at });
-        }
-    }
+// Rows while they are read: the last one's ints may be there before its length.
+#[derive(Drop)]
+struct Gathered {
+    ints: Vec<Int>,
+    lengths: Vec<usize>,
 }
 
-// Adds the row at a place, which has to have a sign behind it.
-fn add_row_at(text: &[u8], at: usize, rows: &mut Rows) -> Result<Element, ReadFault>
-    requires { at ≤ length text.now }
-    ensures { MatchResult result (λ e. AddsRowAt text.now at e.last e.length rows.old.ints.items rows.new.ints.items rows.old.lengths.items rows.new.lengths.items) (λ f. Stopping (StopsElement row_text text.now at) f) }
-{
-    let row = match add_row(&text[at..], &mut rows.ints) {
-        Ok(row) => row,
-        Err(fault) => return Err(fault.behind(at)),
-    };
-    let end = at + row.length;
-    let Some(last) = sign_at(text, end) else {
-        return Err(ReadFault::NoValue(end));
-    };
-    rows.lengths.push(row.count)?;
-    Ok(Element {
-        length: row.length + 1,
-        last,
-    })
-}
+impl Elements for Gathered {
+    ghost Element = { List TheInt };
 
-// Adds the rows at the beginning of the text, and answers the length of their text.
-fn add_rows(text: &[u8], rows: &mut Rows) -> Result<usize, ReadFault>
-    requires { (rows.old.ints.items ≡ []) × (rows.old.lengths.items ≡ []) }
-    ensures { MatchResult result (λ n. ReadsRows text.now n rows.new.ints.items rows.new.lengths.items) (λ f. Stopping (StopsAt rows_text text.now) f) }
-{
-    if byte_at(text, 0) != b'[' {
-        return Err(ReadFault::NoValue(0));
-    }
-    if byte_at(text, 1) == b']' {
-        return Ok(2);
-    }
-    let mut at = 1;
-    loop {
-        let element = add_row_at(text, at, rows)?;
-        at += element.length;
-        if element.last {
-            return Ok(at);
-        }
+    ghost spelled = { row_text };
+
+    ghost Keeps = { λ before row after. (after.ints.items ≡ before.ints.items ++ row) × (after.lengths.items ≡ before.lengths.items ++ (length row ∷ [])) };
+
+    fn read_element(&mut self, text: &[u8]) -> Result<usize, ReadFault> {
+        let before = self.ints.len();
+        let length = read_list(text, &mut self.ints)?;
+        self.lengths.push(self.ints.len() - before)?;
+        Ok(length)
     }
 }
 
@@ -145,13 +84,14 @@ fn add_rows(text: &[u8], rows: &mut Rows) -> Result<usize, ReadFault>
 pub fn read_rows(heap: Global, text: &[u8]) -> Result<Rows, ReadFault>
     ensures { MatchResult result (λ rows. RowsRead text.now rows.ints.items rows.lengths.items) (λ f. Stopping (NoText rows_text text.now) f) }
 {
-    let mut rows = Rows {
+    let mut rows = Gathered {
         ints: Vec::new(heap),
         lengths: Vec::new(heap),
     };
-    let length = add_rows(text, &mut rows)?;
+    let length = read_list(text, &mut rows)?;
     if length < text.len() {
         return Err(ReadFault::NoValue(length));
     }
-    Ok(rows)
+    let Gathered { ints, lengths } = rows;
+    Ok(Rows { ints, lengths })
 }

@@ -1,204 +1,136 @@
 -- Cells gathered from vectors, value by value.
-use Rattle.std.proofs.Common.{◌≡◌, ℕ, ◌+◌, ◌-◌, ◌<◌, ◌≤◌, List, [], ◌∷◌, ◌++◌, map, length, take, drop, Some, None, Option, sym, ap, ◌∙◌, subst, ap₂, append-nil, add-zero, arith, length-append, length-drop}
+use Rattle.std.proofs.Common.{◌≡◌, ℕ, suc, ◌-◌, ◌<◌, ◌≤◌, ◌⊎◌, inr, List, [], ◌∷◌, ◌++◌, map, length, take, drop, Some, None, Option, sym, refl, ap, ◌∙◌, subst, append-nil, append_assoc, arith, length-append, length-drop}
+use denote.Ref.{Bor}
 use borrow.Rule.Slice.PartMut.{put_mid}
-use Rattle.std.proofs.lemmas.List.{take_all, take_at, drop_at, drop_all, length-map, map-append}
+use Rattle.std.proofs.lemmas.List.{take_at, drop_at, drop_all, length-map, map-append, take-map, drop-map, take_rest, nil_from_length}
 use Rattle.monoid.specs.declared.int.Int.{Int}
 use Rattle.monoid.specs.Segments.{concat}
-use Rattle.types.specs.Types.{Ty, int, bool, pair, list, parts}
+use Rattle.types.specs.Types.{Ty, pair, list, parts}
 use Rattle.types.specs.Entries.{counted}
 use Rattle.lang.specs.Values.{Val, size, sum_by}
-use Rattle.lang.specs.Layout.{cells, vectors, flat_map, flag, count}
-use Rattle.vectors.specs.declared.span.Span.{Span}
-use Rattle.vectors.specs.Vectors.{Countable, written}
+use Rattle.lang.specs.Layout.{cells, vectors, flat_map, count}
+use Rattle.vectors.specs.declared.writer.Writer.{Writer}
+use Rattle.vectors.specs.Vectors.{Countable}
+use Rattle.vectors.specs.Writing.{room, Wrote, Puts, Goes}
 use Rattle.vectors.specs.Walking.{IsLength}
-use Rattle.vectors.specs.Placing.{entries}
-use Rattle.vectors.specs.Gathering.{left, Takes, Puts, Carries, Gathered, Gathers, GathersAll}
-use Rattle.vectors.proofs.Sums.{number, celled, few, sum-append, length_each, each_append, element}
+use Rattle.vectors.specs.Gathering.{left, first, behind_first, Gathers}
+use Rattle.vectors.proofs.Sums.{number, few}
 use Rattle.vectors.proofs.Faithful.{length_is}
-use Rattle.vectors.proofs.Writing.{written_none, written-written, length-written}
-use Rattle.vectors.proofs.Walking.{never_none}
-use Rattle.vectors.proofs.Entries.{took, put_is}
+use Rattle.vectors.proofs.Writing.{wrote_none, goes_then}
 
--- ---- one after the other
-pub never : (X : Type 0) (vs : List (List Int)) (p ints out : List Int) (to : ℕ) (spans' : List Span) (out' : List Int)
-    → Gathered vs p ints out to None spans' out' → X
-never X vs p ints out to spans' out' g = absurd (never_none _ (sym g.is))
+-- what the code lends from a place on, and what that leaves
+abbrev pub lent : ℕ → List (Bor (List Int)) → List (Bor (List Int))
+lent n vs = take (length vs - n) (drop n vs)
 
-module _ (vs : List (List Int)) (p ints out : List Int) (to at : ℕ) (spans₁ : List Span) (out₁ : List Int)
-    (g : Gathered vs p ints out to (Some at) spans₁ out₁) where
-  pub at_place : at ≡ to + length p
-  at_place = let e = g.is in cc
+abbrev pub returned : ℕ → List (Bor (List Int)) → List (Bor (List Int)) → List (Bor (List Int))
+returned n vs rs = put_mid n (length vs - n) vs rs
 
-  pub room_left : to + length p ≤ length out → length out₁ ≡ length out
-  room_left h = ap length g.wrote ∙ length-written out to p h
+left_lent : (n : ℕ) (vs : List (Bor (List Int))) → left (lent n vs) ≡ drop n (left vs)
+left_lent n vs = ap left (take_rest vs n) ∙ sym (drop-map _ n vs)
 
-  pub gathered_on : (ws : List (List Int)) (q : List Int) (r : Option ℕ) (spans₂ : List Span) (out₂ : List Int) → to + length p ≤ length out
-      → r ≡ Some (at + length q) → out₂ ≡ written out₁ at q → left ints spans₂ ≡ ws → Gathered ws (p ++ q) ints out to r spans₂ out₂
-  gathered_on ws q r spans₂ out₂ h is wrote leaves =
-      let place : at + length q ≡ to + length (p ++ q) = let e = at_place in omega (arith, length-append p q) in
-      record {
-        is = is ∙ ap (λ (i : ℕ). Some i) place;
-        leaves = leaves;
-        wrote = wrote ∙ ap₂ (λ (xs : List Int) (i : ℕ). written xs i q) g.wrote at_place ∙ written-written out to p h q;
-      }
+left_returned : (n : ℕ) (vs rs : List (Bor (List Int))) → n ≤ length vs → left (returned n vs rs) ≡ take n (left vs) ++ left rs
+left_returned n vs rs h =
+    let none : drop (length vs - n) (drop n vs) ≡ [] = drop_all (length vs - n) (drop n vs) (omega (arith, length-drop n vs)) in
+    simp (none, append-nil, map-append, take-map)
 
--- what the code lends from a place on, and what it leaves
-pub lent_behind : (m : ℕ) (spans rs : List Span) → m ≤ length spans → put_mid m (length spans - m) spans rs ≡ take m spans ++ rs
-lent_behind m spans rs h =
-    let none : drop (length spans - m) (drop m spans) ≡ [] = drop_all (length spans - m) (drop m spans) (omega (arith, length-drop m spans)) in
-    ap (λ xs. take m spans ++ (rs ++ xs)) none ∙ ap (λ xs. take m spans ++ xs) (append-nil rs)
+pub gathers_at : {t u : Ty} {us us' : List (List Int)} {w w' : Writer} {r : Option (Unit {0})} → t ≡ u → Gathers u us w r us' w' → Gathers t us w r us' w'
+gathers_at {us = us} {us'} {w} {w'} {r} e g = subst (λ t. Gathers t us w r us' w') (sym e) g
+
+-- ---- the next entry
+module _ {us : List (List Int)} {x : Int} {p : List Int} {ps : List (List Int)} (e : us ≡ (x ∷ p) ∷ ps) where
+  pub no_entry : None ≡ first us → ⊥
+  no_entry none = cc
+
+  pub entry-is : {y : Int} → Some y ≡ first us → y ≡ x
+  entry-is some = cc
+
+  pub one_gathers : {us₁ : List (List Int)} {w w₁ : Writer} {y : Int} {r : Option (Unit {0})} → Some y ≡ first us → us₁ ≡ behind_first us → Puts w y r w₁
+      → 1 ≤ length (room w) → Goes tt (p ∷ ps) (x ∷ []) w r us₁ w₁
+  one_gathers {us₁} {w} {w₁} {y} {r = Some u} some rest puts h =
+      record { is = refl; leaves = rest ∙ ap behind_first e; wrote = subst (λ z. Wrote w (z ∷ []) w₁) (entry-is some) puts.1 }
+  one_gathers {r = None} some rest puts h = absurd (omega (arith, ap length puts.0))
 
 -- ---- a pair
-module _ (a b : Ty) (ints : List Int) (spans ls rs : List Span) (split : spans ≡ ls ++ rs) (mid : length ls ≡ counted a) where
-  module _ (v : Val (pair a b)) (ws : List (Val (pair a b))) (small : parts (pair a b) ≤ 8) (is : left ints spans ≡ vectors (pair a b) (v ∷ ws)) where
-    halves : left ints ls ++ left ints rs ≡ vectors a (v.0 ∷ map (λ w. w.0) ws) ++ vectors b (v.1 ∷ map (λ w. w.1) ws)
-    halves = sym (map-append (entries ints) ls rs) ∙ ap (left ints) (sym split) ∙ is
+pub pair_gathers : {a b : Ty} {us us₂ : List (List Int)} {w w₁ w₂ : Writer} {r r₂ : Option (Unit {0})} {n : ℕ} (vs₁ : List (Bor (List Int)))
+    → n ≡ counted a → Gathers a us w r (left vs₁) w₁
+    → (r ≡ None) ⊎ ((rs : List (Bor (List Int))) × (us₂ ≡ left (returned n vs₁ rs)) × (n ≤ length vs₁) × Gathers b (left (lent n vs₁)) w₁ r₂ (left rs) w₂)
+    → Gathers (pair a b) us w r₂ us₂ w₂
+pair_gathers {a} {b} {n = n} vs₁ e first second = record {
+  goes = λ v vs others small fits is h.
+      let va = vectors a (map (λ w. w.0) vs) in
+      let vb = vectors b (v.1 ∷ map (λ w. w.1) vs) ++ others in
+      let long : length va ≡ n = omega (arith, number a (map (λ w. w.0) vs)) in
+      goes_then (cells b v.1) refl h
+      (first.goes v.0 (map (λ w. w.0) vs) vb (omega arith) (omega arith) (is ∙ append_assoc (vectors a (v.0 ∷ map (λ w. w.0) vs)) (vectors b (v.1 ∷ map (λ w. w.1) vs)) others))
+      second (λ second now room.
+      let there = second.3.goes v.1 (map (λ w. w.1) vs) others (omega arith) (omega arith) (left_lent n vs₁ ∙ ap (drop n) now ∙ drop_at va vb n long) room in
+      record {
+        is = there.is;
+        leaves = cc (second.1, left_returned n vs₁ second.0 second.2, take_at va vb n long, append_assoc va (vectors b (map (λ w. w.1) vs)) others);
+        wrote = there.wrote;
+      });
+}
 
-    long : length (left ints ls) ≡ parts a
-    long = length-map ls (entries ints) ∙ mid ∙ omega arith
+pub few_vectors : {a b : Ty} {us us' : List (List Int)} {w w' : Writer} {r : Option (Unit {0})} → length us < counted a → Gathers (pair a b) us w r us' w'
+few_vectors {a} {b} {us} few = record {
+  goes = λ v vs others small fits is h.
+      absurd (omega (arith, ap length is, length-append (vectors (pair a b) (v ∷ vs)) others, number (pair a b) (v ∷ vs)));
+}
 
-    first_half : left ints ls ≡ vectors a (v.0 ∷ map (λ w. w.0) ws)
-    first_half = sym (take_at (left ints ls) (left ints rs) (parts a) long) ∙ ap (take (parts a)) halves
-        ∙ take_at (vectors a (v.0 ∷ map (λ w. w.0) ws)) _ (parts a) (number a (v.0 ∷ map (λ w. w.0) ws))
+-- ---- a list: its length and then its elements
+-- the cells of the next n values
+pub record GathersAll (t : Ty) (n : ℕ) (us : List (List Int)) (w : Writer) (r : Option (Unit {0})) (us' : List (List Int)) (w' : Writer) : Type 0 where
+  pub goes : (vs ws : List (Val t)) (others : List (List Int)) → length vs ≡ n → parts t ≤ 8 → Countable (sum_by (size t) vs)
+      → us ≡ vectors t (vs ++ ws) ++ others → length (flat_map (cells t) vs) ≤ length (room w)
+      → Goes tt (vectors t ws ++ others) (flat_map (cells t) vs) w r us' w'
 
-    second_half : left ints rs ≡ vectors b (v.1 ∷ map (λ w. w.1) ws)
-    second_half = sym (drop_at (left ints ls) (left ints rs) (parts a) long) ∙ ap (drop (parts a)) halves
-        ∙ drop_at (vectors a (v.0 ∷ map (λ w. w.0) ws)) _ (parts a) (number a (v.0 ∷ map (λ w. w.0) ws))
-
-  pub pair_gathers : (out : List Int) (to at : ℕ) (out₁ : List Int) (ls' rs' spans' : List Span) (r : Option ℕ) (out₂ : List Int)
-      → spans' ≡ ls' ++ rs'
-      → Gathers a ints ls out to (Some at) ls' out₁ → Gathers b ints rs out₁ at r rs' out₂ → Gathers (pair a b) ints spans out to r spans' out₂
-  pair_gathers out to at out₁ ls' rs' spans' r out₂ split' first second v ws small fits is room =
-      let p = cells a v.0 in
-      let na = celled a v.0 in
-      let here = first v.0 (map (λ w. w.0) ws) (omega arith) (omega arith) (first_half v ws small is) (omega arith) in
-      let kept = room_left _ p ints out to at ls' out₁ here (omega arith) in
-      let place = at_place _ p ints out to at ls' out₁ here in
-      let there = second v.1 (map (λ w. w.1) ws) (omega arith) (omega arith) (second_half v ws small is) (omega arith) in
-      gathered_on _ p ints out to at ls' out₁ here (vectors (pair a b) ws) (cells b v.1) r spans' out₂ (omega arith) there.is there.wrote
-      (ap (left ints) split' ∙ map-append (entries ints) ls' rs' ∙ ap₂ (λ (x y : List (List Int)). x ++ y) here.leaves there.leaves)
-
-  pub first_fails : (out : List Int) (to : ℕ) (out₁ : List Int) (ls' spans' : List Span) → Gathers a ints ls out to None ls' out₁
-      → Gathers (pair a b) ints spans out to None spans' out₁
-  first_fails out to out₁ ls' spans' first v ws small fits is room =
-      never _ _ _ ints out to ls' out₁ (first v.0 (map (λ w. w.0) ws) (omega arith) (omega arith) (first_half v ws small is) (omega arith))
-
-pub few_spans : (a b : Ty) (ints : List Int) (spans : List Span) (out : List Int) (to : ℕ) → length spans < counted a
-    → Gathers (pair a b) ints spans out to None spans out
-few_spans a b ints spans out to h v ws small fits is room =
-    let n : length spans ≡ parts a + parts b = sym (length-map spans (entries ints)) ∙ ap length is ∙ number (pair a b) (v ∷ ws) in
-    absurd (omega arith)
-
--- ---- a list
-module _ (a : Ty) (ints : List Int) (spans spans₁ : List Span) (out : List Int) (to : ℕ) where
-  pub list_gathers : (x : Int) (n at : ℕ) (out₁ : List Int) (ls rs rs' spans' : List Span) (r : Option ℕ) (out₂ : List Int) → spans₁ ≡ ls ++ rs
-      → length ls ≡ 1 → spans' ≡ ls ++ rs'
-      → Takes ints spans (Some x) spans₁ → IsLength x (Some n) → Puts out to x (Some at) out₁ → GathersAll a n ints rs out₁ at r rs' out₂
-      → Gathers (list a) ints spans out to r spans' out₂
-  list_gathers x n at out₁ ls rs rs' spans' r out₂ split one split' takes is_length puts second v ws small fits is room =
-      let lens = map (λ (w : List (Val a)). count (length w)) ws in
-      let t = took ints spans (Some x) spans₁ takes (count (length v)) lens (vectors a (v ++ concat ws)) is in
-      let same : x ≡ count (length v) = let q = t.is in cc in
+pub list_gathers : {a : Ty} {n : ℕ} {x : Int} {us : List (List Int)} {w w₁ w₂ : Writer} {r : Option (Unit {0})} (vs₁ rs : List (Bor (List Int)))
+    → Some x ≡ first us → left vs₁ ≡ behind_first us → IsLength x (Some n) → Wrote w (x ∷ []) w₁
+    → GathersAll a n (left (lent 1 vs₁)) w₁ r (left rs) w₂ → Gathers (list a) us w r (left (returned 1 vs₁ rs)) w₂
+list_gathers {a} {n} {x} {w = w} {w₁ = w₁} vs₁ rs some behind is_length puts rest = record {
+  goes = λ v vs others small fits is h.
+      let same = entry-is is some in
+      let now = behind ∙ ap behind_first is in
       let long : length v ≡ n = let q = length_is x (length v) (omega (arith, few a v)) same (Some n) is_length in cc in
-      let halves : left ints ls ++ left ints rs ≡ (lens ∷ []) ++ vectors a (v ++ concat ws) = sym (map-append (entries ints) ls rs)
-      ∙ ap (left ints) (sym split) ∙ t.leaves in
-      let first : left ints ls ≡ lens ∷ [] = sym (take_at (left ints ls) (left ints rs) 1 (length-map ls (entries ints) ∙ one))
-      ∙ ap (take 1) halves in
-      let rest : left ints rs ≡ vectors a (v ++ concat ws) = sym (drop_at (left ints ls) (left ints rs) 1 (length-map ls (entries ints) ∙ one))
-      ∙ ap (drop 1) halves in
-      let wrote : out₁ ≡ written out to (count (length v) ∷ []) = put_is out to x at out₁ puts (count (length v)) same in
-      let kept : length out₁ ≡ length out = ap length wrote ∙ length-written out to (count (length v) ∷ []) (omega (arith, puts.0)) in
-      let here : Gathered (vectors a (v ++ concat ws)) (count (length v) ∷ []) ints out to (Some at) rs out₁ =
-      record { is = ap (λ (i : ℕ). Some i) puts.1; leaves = rest; wrote = wrote } in
-      let there = second v (concat ws) long (omega arith) (omega arith) rest (omega (arith, puts.1)) in
-      gathered_on _ (count (length v) ∷ []) ints out to at rs out₁ here (vectors (list a) ws) (flat_map (cells a) v) r spans' out₂
-      (omega (arith, puts.0)) there.is there.wrote
-      (ap (left ints) split' ∙ map-append (entries ints) ls rs' ∙ ap₂ (λ (x y : List (List Int)). x ++ y) first there.leaves)
+      let here : Goes (tt {0}) (map (λ (w : List (Val a)). count (length w)) vs ∷ (vectors a (v ++ concat vs) ++ others)) (count (length v) ∷ []) w (Some tt) (left vs₁) w₁ =
+      record { is = refl; leaves = now; wrote = subst (λ z. Wrote w (z ∷ []) w₁) same puts } in
+      goes_then (flat_map (cells a) v) refl h (λ room. here) (inr rest) (λ rest now room.
+      let there = rest.goes v (concat vs) others long (omega arith) (omega arith) (left_lent 1 vs₁ ∙ ap (drop 1) now) room in
+      record {
+        is = there.is;
+        leaves = cc (left_returned 1 vs₁ rs (omega (arith, ap length now, length-map vs₁ (λ v. v.now))));
+        wrote = there.wrote;
+      });
+}
 
-  pub no_more : (spans' : List Span) (out' : List Int) → Takes ints spans None spans₁ → Gathers (list a) ints spans out to None spans' out'
-  no_more spans' out' takes v ws small fits is room = absurd (never_none _ (sym (took ints spans None spans₁ takes (count (length v)) _ _ is).is))
+pub list_stops : {a : Ty} {us us' : List (List Int)} {w w' : Writer} {r : Option (Unit {0})} → None ≡ first us → Gathers (list a) us w r us' w'
+list_stops none = record { goes = λ v vs others small fits is h. absurd (no_entry is none) }
 
-  pub not_a_length : (x : Int) (spans' : List Span) (out' : List Int) → Takes ints spans (Some x) spans₁ → IsLength x None
-      → Gathers (list a) ints spans out to None spans' out'
-  not_a_length x spans' out' takes is_length v ws small fits is room =
-      let t = took ints spans (Some x) spans₁ takes (count (length v)) _ _ is in
-      let same : x ≡ count (length v) = let q = t.is in cc in
-      absurd (never_none _ (sym (length_is x (length v) (omega (arith, few a v)) same None is_length)))
-
-  pub no_place : (x : Int) (spans' : List Span) (out' : List Int) → Puts out to x None out' → Gathers (list a) ints spans out to None spans' out'
-  no_place x spans' out' puts v ws small fits is room = absurd (omega (arith, puts.0))
-
--- ---- an int or a bool
-pub int_gathers : (ints : List Int) (spans : List Span) (out : List Int) (to : ℕ) (r : Option ℕ) (spans' : List Span) (out' : List Int)
-    → Carries ints spans out to r spans' out' → Gathers int ints spans out to r spans' out'
-int_gathers ints spans out to r spans' out' carries v ws small fits is room = carries v ws [] is (omega arith)
-
-pub bool_gathers : (ints : List Int) (spans : List Span) (out : List Int) (to : ℕ) (r : Option ℕ) (spans' : List Span) (out' : List Int)
-    → Carries ints spans out to r spans' out' → Gathers bool ints spans out to r spans' out'
-bool_gathers ints spans out to r spans' out' carries v ws small fits is room = carries (flag v) (map flag ws) [] is (omega arith)
-
-pub gathers_at : (t u : Ty) (ints : List Int) (spans : List Span) (out : List Int) (to : ℕ) (r : Option ℕ) (spans' : List Span) (out' : List Int)
-    → t ≡ u → Gathers u ints spans out to r spans' out' → Gathers t ints spans out to r spans' out'
-gathers_at t u ints spans out to r spans' out' e gathers = subst (λ x. Gathers x ints spans out to r spans' out') (sym e) gathers
-
-pub fails_at : (t u : Ty) (ints : List Int) (spans : List Span) (out : List Int) (to : ℕ) (r : Option ℕ) (spans' : List Span) (out' : List Int)
-    → t ≡ u → r ≡ None → Gathers u ints spans out to None spans' out' → Gathers t ints spans out to r spans' out'
-fails_at t u ints spans out to r spans' out' e none gathers =
-    subst (λ x. Gathers t ints spans out to x spans' out') (sym none) (gathers_at t u ints spans out to None spans' out' e gathers)
+pub list_uncounted : {a : Ty} {x : Int} {us us' : List (List Int)} {w w' : Writer} {r : Option (Unit {0})} → Some x ≡ first us → IsLength x None
+    → Gathers (list a) us w r us' w'
+list_uncounted {a} {x} some is_length = record {
+  goes = λ v vs others small fits is h.
+      let e = length_is x (length v) (omega (arith, few a v)) (entry-is is some) None is_length in
+      absurd (cc);
+}
 
 -- ---- values one after the other
--- the first i of n values were gathered
-abbrev pub GatheredTo : Ty → ℕ → ℕ → List Int → List Span → List Int → ℕ → ℕ → List Span → List Int → Type 0
-GatheredTo t n i ints spans out to at spans' out' =
-    (vs ws : List (Val t)) → length vs ≡ n → parts t ≤ 8 → Countable (sum_by (size t) vs) → left ints spans ≡ vectors t (vs ++ ws) →
-    to + sum_by (size t) vs ≤ length out → Gathered (vectors t (drop i vs ++ ws)) (flat_map (cells t) (take i vs)) ints out to (Some at) spans' out'
+pub gathers_none : {t : Ty} {n : ℕ} {us : List (List Int)} {w : Writer} → n ≡ 0 → GathersAll t n us w (Some tt) us w
+gathers_none {t} {w = w} z = record {
+  goes = λ vs ws others long small fits is h.
+      let none : vs ≡ [] = nil_from_length vs (omega arith) in
+      let empty : flat_map (cells t) vs ≡ [] = ap (flat_map (cells t)) none in
+      rw empty (record { is = refl; leaves = is ∙ ap (λ us. vectors t (us ++ ws) ++ others) none; wrote = wrote_none w });
+}
 
-pub none_gathered : (t : Ty) (n : ℕ) (ints : List Int) (spans : List Span) (out : List Int) (to : ℕ) → GatheredTo t n 0 ints spans out to to spans out
-none_gathered t n ints spans out to vs ws all small fits is room =
-    record { is = ap (λ (i : ℕ). Some i) (sym (add-zero to)); leaves = is; wrote = written_none out to }
-
-module _ (t : Ty) (n i : ℕ) (ints : List Int) (spans : List Span) (out : List Int) (to at : ℕ) (spans' : List Span) (out' : List Int)
-    (so_far : GatheredTo t n i ints spans out to at spans' out') (h : i < n)
-    (r : Option ℕ) (spans₁ : List Span) (out₁ : List Int) (gathers : Gathers t ints spans' out' at r spans₁ out₁) where
-  gather-one : (vs ws : List (Val t)) → length vs ≡ n → parts t ≤ 8 → Countable (sum_by (size t) vs) → left ints spans ≡ vectors t (vs ++ ws)
-      → to + sum_by (size t) vs ≤ length out → Gathered (vectors t (drop (i + 1) vs ++ ws))
-      (flat_map (cells t) (take (i + 1) vs)) ints out to r spans₁ out₁
-  gather-one vs ws all small fits is room =
-      let e = element vs i (omega arith) in
-      let us = take i vs in
-      let x = e.value in
-      let p = flat_map (cells t) us in
-      let done = so_far vs ws all small fits is room in
-      let long : length p ≡ sum_by (size t) us = length_each (cells t) (size t) (celled t) us in
-      let sizes : sum_by (size t) vs ≡ sum_by (size t) us + (size t x + sum_by (size t) e.behind) = ap (sum_by (size t)) e.split
-      ∙ sum-append (size t) us (x ∷ e.behind) in
-      let next : left ints spans' ≡ vectors t (x ∷ (drop (i + 1) vs ++ ws)) = done.leaves ∙ ap (λ xs. vectors t (xs ++ ws)) e.rest in
-      let kept = room_left _ p ints out to at spans' out' done (omega arith) in
-      let place = at_place _ p ints out to at spans' out' done in
-      let here = gathers x (drop (i + 1) vs ++ ws) small (omega arith) next (omega arith) in
-      let rows : p ++ cells t x ≡ flat_map (cells t) (take (i + 1) vs) =
-      sym (ap (flat_map (cells t)) e.more ∙ each_append (cells t) us (x ∷ []) ∙ ap (λ xs. p ++ xs) (append-nil (cells t x))) in
-      subst (λ q. Gathered (vectors t (drop (i + 1) vs ++ ws)) q ints out to r spans₁ out₁) rows
-      (gathered_on _ p ints out to at spans' out' done (vectors t (drop (i + 1) vs ++ ws)) (cells t x) r spans₁ out₁ (omega arith) here.is
-      here.wrote here.leaves)
-
-pub gather_more : (t : Ty) (n i : ℕ) (ints : List Int) (spans : List Span) (out : List Int) (to at : ℕ) (spans' : List Span) (out' : List Int)
-    → GatheredTo t n i ints spans out to at spans' out' → i < n
-    → (at₁ : ℕ) (spans₁ : List Span) (out₁ : List Int) → Gathers t ints spans' out' at (Some at₁) spans₁ out₁
-    → GatheredTo t n (i + 1) ints spans out to at₁ spans₁ out₁
-gather_more t n i ints spans out to at spans' out' so_far h at₁ spans₁ out₁ gathers vs ws all small fits is room =
-    gather-one t n i ints spans out to at spans' out' so_far h (Some at₁) spans₁ out₁ gathers vs ws all small fits is room
-
-pub gather_fails : (t : Ty) (n i : ℕ) (ints : List Int) (spans : List Span) (out : List Int) (to at : ℕ) (spans' : List Span) (out' : List Int)
-    → GatheredTo t n i ints spans out to at spans' out' → i < n
-    → (spans₁ : List Span) (out₁ : List Int) → Gathers t ints spans' out' at None spans₁ out₁ → GathersAll t n ints spans out to None spans₁ out₁
-gather_fails t n i ints spans out to at spans' out' so_far h spans₁ out₁ gathers vs ws all small fits is room =
-    never _ _ _ ints out to spans₁ out₁ (gather-one t n i ints spans out to at spans' out' so_far h None spans₁ out₁ gathers vs ws all small fits is room)
-
-pub all-gathered : (t : Ty) (n i : ℕ) (ints : List Int) (spans : List Span) (out : List Int) (to at : ℕ) (spans' : List Span) (out' : List Int)
-    → GatheredTo t n i ints spans out to at spans' out' → n ≤ i → GathersAll t n ints spans out to (Some at) spans' out'
-all-gathered t n i ints spans out to at spans' out' so_far h vs ws all small fits is room =
-    let whole : take i vs ≡ vs = take_all i vs (omega arith) in
-    let none : drop i vs ≡ [] = drop_all i vs (omega arith) in
-    let G : List (Val t) → List (Val t) → Type 0 = λ us xs. Gathered (vectors t (xs ++ ws)) (flat_map (cells t) us) ints out to (Some at) spans' out' in
-    subst (λ xs. G vs xs) none (subst (λ us. G us (drop i vs)) whole (so_far vs ws all small fits is room))
+pub gathers_more : {t : Ty} {n : ℕ} {us us₁ us₂ : List (List Int)} {w w₁ w₂ : Writer} {r r₂ : Option (Unit {0})} (m : ℕ) → n ≡ suc m
+    → Gathers t us w r us₁ w₁ → (r ≡ None) ⊎ GathersAll t m us₁ w₁ r₂ us₂ w₂ → GathersAll t n us w r₂ us₂ w₂
+gathers_more {t} {n} {us} {us₂ = us₂} {w} {w₂ = w₂} {r₂ = r₂} m k first all = record { goes = by }
+  where
+    by : (vs ws : List (Val t)) (others : List (List Int)) → length vs ≡ n → parts t ≤ 8 → Countable (sum_by (size t) vs)
+        → us ≡ vectors t (vs ++ ws) ++ others → length (flat_map (cells t) vs) ≤ length (room w)
+        → Goes tt (vectors t ws ++ others) (flat_map (cells t) vs) w r₂ us₂ w₂
+    by [] ws others l small fits is h = absurd (omega arith)
+    by (v ∷ vs) ws others l small fits is h =
+        goes_then (flat_map (cells t) vs) refl h (first.goes v (vs ++ ws) others small (omega arith) is)
+        all (λ all. all.goes vs ws others (omega arith) small (omega arith))

@@ -1,9 +1,8 @@
 pub mod Sums
 pub mod Faithful
+pub mod Shapes
 pub mod Writing
-pub mod Steps
+pub mod Gathering
 pub mod Walking
 pub mod Placing
-pub mod Entries
-pub mod Gathering
 pub mod Rooms

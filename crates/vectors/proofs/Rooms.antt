@@ -1,77 +1,70 @@
 -- The room that vectors need, and the cells of a value whose vectors have it.
-use Rattle.std.proofs.Common.{◌≡◌, ℕ, suc, ◌+◌, ◌<◌, ◌≤◌, List, [], ◌∷◌, ◌++◌, map, length, get_or, take, drop, Some, None, Option, sym, refl, ap, ◌∙◌, ap₂, inl, inr, ⊎_elim, add-zero, arith, take-append-drop}
-use Rattle.std.proofs.lemmas.List.{take_all, drop_more, take_more}
-use Rattle.std.proofs.lemmas.Bool.{cases_lt}
+use Rattle.std.proofs.Common.{◌≡◌, ℕ, ◌+◌, ◌<◌, ◌≤◌, ◌⊎◌, inl, inr, Some, None, Option, List, [], ◌∷◌, ◌++◌, map, length, get_or, take, drop, sym, refl, ap, ◌∙◌, arith, append-nil, add-zero, take-append-drop}
+use denote.MutBor.{MutBor}
+use Rattle.std.proofs.lemmas.List.{map_more, map-append, length-map}
 use Rattle.monoid.specs.declared.int.Int.{Int}
 use Rattle.types.specs.Types.{Ty, parts}
 use Rattle.lang.specs.Values.{Val, size, sum_by}
 use Rattle.lang.specs.Layout.{cells, vectors}
 use Rattle.vectors.specs.declared.span.Span.{Span}
-use Rattle.vectors.specs.declared.span.Layout.{Layout}
-use Rattle.vectors.specs.Placing.{extent, spans_of, Holds}
-use Rattle.vectors.specs.Gathering.{Gathers, Joins, Joined}
-use Rattle.vectors.specs.Laws.{BackLaw}
-use Rattle.vectors.proofs.Sums.{number, sized, celled, few, sum-append}
-use Rattle.vectors.proofs.Gathering.{never}
+use Rattle.vectors.specs.declared.writer.Writer.{Writer}
+use Rattle.vectors.specs.Vectors.{Countable}
+use Rattle.vectors.specs.Writing.{Goes}
+use Rattle.vectors.specs.Placing.{entries, Holds}
+use Rattle.vectors.specs.Gathering.{Gathers, Joined}
+use Rattle.vectors.proofs.Sums.{number, sized, celled, sum-append}
+use Rattle.vectors.proofs.Writing.{wrote-is}
 
 abbrev pub nowhere : Span
 nowhere = record { start = 0; end = 0 }
 
-module _ (spans : List Span) (i : ℕ) (h : i < length spans) where
-  pub extent_more : sum_by extent (take (i + 1) spans) ≡ sum_by extent (take i spans) + extent (get_or spans i nowhere)
-  extent_more = omega (arith, ap (sum_by extent) (take_more spans i nowhere h), sum-append extent (take i spans) (get_or spans i nowhere ∷ []))
+-- the entries of the first i vectors and one more
+module _ (ints : List Int) (spans : List Span) (i : ℕ) (d : Span) (h : i < length spans) where
+  pub found_more : map (entries ints) (take (i + 1) spans) ≡ map (entries ints) (take i spans) ++ (entries ints (get_or spans i d) ∷ [])
+  found_more = map_more (entries ints) spans i d h
 
-  pub extent-within : sum_by extent (take i spans) + extent (get_or spans i nowhere) ≤ sum_by extent spans
-  extent-within =
-      let split : spans ≡ take i spans ++ (get_or spans i nowhere ∷ drop (i + 1) spans) = sym (take-append-drop i spans)
-      ∙ ap (λ xs. take i spans ++ xs) (drop_more spans i nowhere h) in
-      omega (arith, ap (sum_by extent) split, sum-append extent (take i spans) (get_or spans i nowhere ∷ drop (i + 1) spans))
+  pub sum_more : sum_by length (map (entries ints) (take (i + 1) spans))
+      ≡ sum_by length (map (entries ints) (take i spans)) + length (entries ints (get_or spans i d))
+  sum_more = omega (arith, ap (sum_by length) found_more, sum-append length (map (entries ints) (take i spans)) (entries ints (get_or spans i d) ∷ []))
 
-pub extent-all : (spans : List Span) (i : ℕ) → length spans ≤ i → sum_by extent (take i spans) ≡ sum_by extent spans
-extent-all spans i h = ap (sum_by extent) (take_all i spans h)
+  pub sum_within : sum_by length (map (entries ints) (take (i + 1) spans)) ≤ sum_by length (map (entries ints) spans)
+  sum_within =
+      let split : map (entries ints) spans ≡ map (entries ints) (take (i + 1) spans) ++ map (entries ints) (drop (i + 1) spans) = cc (
+        take-append-drop (i + 1) spans,
+        map-append (entries ints) (take (i + 1) spans) (drop (i + 1) spans),
+      ) in
+      omega (
+        arith,
+        ap (sum_by length) split,
+        sum-append length (map (entries ints) (take (i + 1) spans)) (map (entries ints) (drop (i + 1) spans)),
+      )
 
--- spans that are as long as the vectors have as many ints as the value's size
-sum_extents : (spans : List Span) (vs : List (List Int)) → map extent spans ≡ map length vs → sum_by extent spans ≡ sum_by length vs
-sum_extents [] [] e = refl
-sum_extents [] (v ∷ vs) e = let z : ◌≡◌ {A = ℕ} 0 (suc (length (map length vs))) = ap length e in absurd (omega arith)
-sum_extents (s ∷ spans) [] e = let z : ◌≡◌ {A = ℕ} (suc (length (map extent spans))) 0 = ap length e in absurd (omega arith)
-sum_extents (s ∷ spans) (v ∷ vs) e =
-    let first : extent s ≡ length v = ap (λ ns. get_or ns 0 (extent s)) e in
-    let rest = sum_extents spans vs (ap (drop 1) e) in
-    ap₂ (λ (m n : ℕ). m + n) first rest
+-- the vectors of v
+module _ (t : Ty) {ints : List Int} {spans : List Span} (v : Val t) (holds : Holds ints spans (vectors t (v ∷ []))) where
+  as_many : length (map (entries ints) spans) ≡ parts t
+  as_many = ap length holds.held ∙ number t (v ∷ [])
 
-module _ (t : Ty) (ints : List Int) (l : Layout) (out : List Int) where
-  all_room : (v : Val t) → Holds ints l (vectors t (v ∷ [])) → sum_by extent (spans_of l) ≡ size t v
-  all_room v holds = sum_extents (spans_of l) (vectors t (v ∷ [])) holds.long ∙ sized t (v ∷ []) ∙ add-zero (size t v)
+  as_long : sum_by length (map (entries ints) spans) ≡ size t v
+  as_long = ap (sum_by length) holds.held ∙ sized t (v ∷ []) ∙ add-zero (size t v)
 
-  pub many-vectors : 8 < l.count → Joins t ints l out None out
-  many-vectors h v fits holds = (inl (omega (arith, holds.number, number t (v ∷ []))), refl)
+  pub not_found : {out : List Int} → (8 < length spans) ⊎ (length out < sum_by length (map (entries ints) spans)) → Joined t v out None out
+  not_found (inl many) = (inl (omega (arith, as_many, length-map spans (entries ints))), refl)
+  not_found (inr little) = (inr (omega (arith, as_long)), refl)
 
-  pub little_room : (sum_by extent (spans_of l) ≤ length out → ⊥) → Joins t ints l out None out
-  little_room h v fits holds =
-      let more : length out < size t v = ⊎_elim (λ (q : length out < size t v). q)
-      (λ (q : size t v ≤ length out). absurd (h (omega (arith, all_room v holds)))) (cases_lt (length out) (size t v)) in
-      (inr more, refl)
+  -- what was gathered into a new writer
+  module _ {us us' : List (List Int)} {out : MutBor (List Int)} {w : Writer} {r : Option (Unit {0})} (found : us ≡ map (entries ints) spans)
+      (few : length us ≤ 8) (h : sum_by length (map (entries ints) spans) ≤ length out.now) (fits : Countable (size t v))
+      (gathers : Gathers t us (record { out = out; to = 0 }) r us' w) where
+    pub gathered : Goes tt (vectors t [] ++ []) (cells t v) (record { out = out; to = 0 }) r us' w
+    gathered = gathers.goes v [] [] (omega (arith, ap length found, as_many)) fits (found ∙ holds.held ∙ sym (append-nil (vectors t (v ∷ []))))
+        (omega (arith, as_long, celled t v))
 
-  pub joins : (r : Option ℕ) (spans' : List Span) (out' : List Int) → l.count ≤ 8 → sum_by extent (spans_of l) ≤ length out
-      → Gathers t ints (spans_of l) out 0 r spans' out' → Joins t ints l out r out'
-  joins (Some n) spans' out' eight room gathers v fits holds =
-      let few : parts t ≤ 8 = omega (arith, holds.number, number t (v ∷ [])) in
-      let roomy : size t v ≤ length out = omega (arith, all_room v holds) in
-      let g = gathers v [] few fits holds.held (omega arith) in
-      let long = celled t v in
-      let place : n ≡ 0 + length (cells t v) = let e = g.is in cc in
-      let behind : 0 + length (cells t v) ≡ size t v = omega arith in
-      (few, roomy, place ∙ behind, g.wrote ∙ ap (λ i. cells t v ++ drop i out) behind)
-  joins None spans' out' eight room gathers v fits holds =
-      let few : parts t ≤ 8 = omega (arith, holds.number, number t (v ∷ [])) in
-      let roomy : size t v ≤ length out = omega (arith, all_room v holds) in
-      never _ _ _ ints out 0 spans' out' (gathers v [] few fits holds.held (omega arith))
-
--- ---- there and back
-pub back : BackLaw
-back t v l out out' room r back' fits laid joins few enough = by r (joins v fits laid.holds)
-  where
-    by : (r : Option ℕ) → Joined t v room r back' → (r ≡ Some (size t v)) × (back' ≡ cells t v ++ drop (size t v) room)
-    by (Some n) joined = (ap (λ (i : ℕ). Some i) joined.2, joined.3)
-    by None joined = ⊎_elim (λ (h : 8 < parts t). absurd (omega arith)) (λ (h : length room < size t v). absurd (omega arith)) joined.0
+    pub joined : {out' : List Int} → out' ≡ w.out.now → Joined t v out.now (Some w.to) out'
+    joined after =
+        let small : parts t ≤ 8 = omega (arith, ap length found, as_many) in
+        let place : w.to ≡ size t v = omega (arith, gathered.wrote.place, celled t v) in (
+          small,
+          omega (arith, as_long),
+          place,
+          after ∙ wrote-is gathered.wrote ∙ ap (λ i. cells t v ++ drop i out.now) (celled t v),
+        )

@@ -1,11 +1,11 @@
 -- How many vectors and cells there are, and what is side by side.
-use Rattle.std.proofs.Common.{◌≡◌, ℕ, zero, suc, ◌+◌, ◌<◌, ◌≤◌, List, [], ◌∷◌, ◌++◌, map, length, take, drop, sym, refl, ap, ◌∙◌, ap₂, append_assoc, add-zero, arith, length-append}
+use Rattle.std.proofs.Common.{◌≡◌, ℕ, zero, suc, ◌+◌, ◌≤◌, List, [], ◌∷◌, ◌++◌, map, length, sym, refl, ap, ◌∙◌, append_assoc, add-zero, arith, length-append}
 use Rattle.std.proofs.lemmas.List.{length-map, map-append}
 use Rattle.monoid.specs.Segments.{concat}
 use Rattle.monoid.specs.declared.int.Int.{Int}
 use Rattle.types.specs.Types.{Ty, int, bool, pair, list}
 use Rattle.lang.specs.Values.{Val, size, sum_by}
-use Rattle.lang.specs.Layout.{cells, vectors, flat_map, flag, count}
+use Rattle.lang.specs.Layout.{cells, vectors, flat_map}
 use Rattle.vectors.specs.Vectors.{beside, part}
 use Rattle.vectors.specs.Laws.{PartsLaw, SizeLaw, AppendLaw, CellsLaw}
 
@@ -59,20 +59,13 @@ concat-append (xs ∷ xss) yss = simp (append_assoc, concat-append xss yss)
 
 pub appended : AppendLaw
 appended int vs ws = refl
-appended bool vs ws = ap (λ xs. xs ∷ []) (map-append flag vs ws)
+appended bool vs ws = simp map-append
 appended (pair a b) vs ws =
-    let va = map (λ (v : Val a × Val b). v.0) vs in
-    let wa = map (λ (v : Val a × Val b). v.0) ws in
-    let vb = map (λ (v : Val a × Val b). v.1) vs in
-    let wb = map (λ (v : Val a × Val b). v.1) ws in
-    ap₂ (λ (x y : List (List Int)). x ++ y)
-    (ap (vectors a) (map-append (λ (v : Val a × Val b). v.0) vs ws) ∙ appended a va wa)
-    (ap (vectors b) (map-append (λ (v : Val a × Val b). v.1) vs ws) ∙ appended b vb wb)
-    ∙ sym (beside-append (vectors a va) (vectors b vb) (vectors a wa) (vectors b wb) (number a va ∙ sym (number a wa)))
-appended (list a) vs ws =
-    ap₂ (λ (x : List Int) (y : List (List Int)). x ∷ y)
-    (map-append (λ (v : List (Val a)). count (length v)) vs ws)
-    (ap (vectors a) (concat-append vs ws) ∙ appended a (concat vs) (concat ws))
+    let va = vectors a (map (λ v. v.0) vs) in
+    let wa = vectors a (map (λ v. v.0) ws) in
+    let same : length va ≡ length wa = number a (map (λ v. v.0) vs) ∙ sym (number a (map (λ v. v.0) ws)) in
+    simp (map-append, appended a, appended b) (sym (beside-append va (vectors b (map (λ v. v.1) vs)) wa (vectors b (map (λ v. v.1) ws)) same))
+appended (list a) vs ws = simp (map-append, concat-append, appended a)
 
 -- part by part
 part-beside : (ps qs : List (List Int)) (k : ℕ) → length ps ≡ length qs → part (beside ps qs) k ≡ part ps k ++ part qs k
@@ -83,22 +76,17 @@ part-beside (p ∷ ps) (q ∷ qs) zero e = refl
 part-beside (p ∷ ps) (q ∷ qs) (suc k) e = part-beside ps qs k (omega arith)
 
 pub part-append : (t : Ty) (vs ws : List (Val t)) (k : ℕ) → part (vectors t (vs ++ ws)) k ≡ part (vectors t vs) k ++ part (vectors t ws) k
-part-append t vs ws k =
-    ap (λ xs. part xs k) (appended t vs ws) ∙ part-beside (vectors t vs) (vectors t ws) k (number t vs ∙ sym (number t ws))
+part-append t vs ws k = rw (appended t vs ws) (part-beside (vectors t vs) (vectors t ws) k (number t vs ∙ sym (number t ws)))
 
 -- cells
-pub length_each : {A B : Type 0} (f : A → List B) (n : A → ℕ) → ((x : A) → length (f x) ≡ n x) → (xs : List A) → length (flat_map f xs) ≡ sum_by n xs
+length_each : {A B : Type 0} (f : A → List B) (n : A → ℕ) → ((x : A) → length (f x) ≡ n x) → (xs : List A) → length (flat_map f xs) ≡ sum_by n xs
 length_each f n e [] = refl
-length_each f n e (x ∷ xs) = length-append (f x) (flat_map f xs) ∙ ap₂ (λ i j. i + j) (e x) (length_each f n e xs)
-
-pub each_append : {A B : Type 0} (f : A → List B) (xs ys : List A) → flat_map f (xs ++ ys) ≡ flat_map f xs ++ flat_map f ys
-each_append f [] ys = refl
-each_append f (x ∷ xs) ys = ap (λ zs. f x ++ zs) (each_append f xs ys) ∙ sym (append_assoc (f x) (flat_map f xs) (flat_map f ys))
+length_each f n e (x ∷ xs) = omega (arith, length-append (f x) (flat_map f xs), e x, length_each f n e xs)
 
 pub celled : CellsLaw
 celled int v = refl
 celled bool v = refl
-celled (pair a b) v = length-append (cells a v.0) (cells b v.1) ∙ ap₂ (λ i j. i + j) (celled a v.0) (celled b v.1)
+celled (pair a b) v = omega (arith, length-append (cells a v.0) (cells b v.1), celled a v.0, celled b v.1)
 celled (list a) v = omega (arith, length_each (cells a) (size a) (celled a) v)
 
 -- a value has a size
@@ -119,26 +107,3 @@ sum_halves a b vs = simp (sum-plus, sum-map)
 
 pub sum-elements : (a : Ty) (vs : List (Val (list a))) → sum_by (size (list a)) vs ≡ length vs + sum_by (size a) (concat vs)
 sum-elements a vs = simp (sum-suc, sum-concat)
-
--- element i, with what stands before it and behind it
-pub record Element {A : Type 0} (vs : List A) (i : ℕ) : Type 0 where
-  pub value : A
-  pub behind : List A
-  pub more : take (i + 1) vs ≡ take i vs ++ (value ∷ [])
-  pub rest : drop i vs ≡ value ∷ drop (i + 1) vs
-  pub split : vs ≡ take i vs ++ (value ∷ behind)
-
-pub element : {A : Type 0} (vs : List A) (i : ℕ) → i < length vs → Element vs i
-element [] i h = absurd (omega arith)
-element (v ∷ vs) zero h = record { value = v; behind = vs; more = refl; rest = refl; split = refl }
-element (v ∷ vs) (suc i) h =
-    let e = element vs i (omega arith) in
-    let next : suc i + 1 ≡ suc (i + 1) = omega arith in
-    record {
-      value = e.value;
-      behind = e.behind;
-      more = ap (λ n. take n (v ∷ vs)) next ∙ ap (λ xs. v ∷ xs) e.more;
-      rest = e.rest
-          ∙ sym (ap (λ n. e.value ∷ drop n (v ∷ vs)) next);
-      split = ap (λ xs. v ∷ xs) e.split;
-    }

@@ -1,54 +1,46 @@
--- What is written into a row, and what stands in one.
-use Rattle.std.proofs.Common.{◌≡◌, ℕ, suc, ◌+◌, ◌<◌, ◌≤◌, List, [], ◌∷◌, ◌++◌, length, get_or, take, drop, set, sym, ap, ◌∙◌, ap₂, append_assoc, add-zero, arith, length-append, length-drop, take-append-drop}
-use Rattle.std.proofs.lemmas.List.{take_at, drop_at, drop-drop, length-take-le, set_split, get_or-drop}
+-- What is written one after the other.
+use Rattle.std.proofs.Common.{◌≡◌, ◌-◌, ◌≤◌, ◌⊎◌, inl, inr, Option, Some, None, List, [], ◌++◌, length, drop, sym, refl, ap, ◌∙◌, append-nil, add-zero, append_assoc, arith, length-append, length-drop, take-append-drop}
+use Rattle.std.proofs.lemmas.List.{drop-drop}
 use Rattle.monoid.specs.declared.int.Int.{Int}
-use Rattle.vectors.specs.Vectors.{written, Begins}
+use Rattle.vectors.specs.declared.writer.Writer.{Writer}
+use Rattle.vectors.specs.Writing.{done, room, Wrote, Goes}
 
-pub written_none : (xs : List Int) (at : ℕ) → xs ≡ written xs at []
-written_none xs at = sym (ap (λ n. take at xs ++ drop n xs) (add-zero at) ∙ take-append-drop at xs)
+pub wrote_none : (w : Writer) → Wrote w [] w
+wrote_none w = record { place = sym (add-zero w.to); behind = sym (append-nil (done w)); before = refl }
 
-pub written_one : (xs : List Int) (at : ℕ) (x : Int) → at < length xs → set xs at x ≡ written xs at (x ∷ [])
-written_one xs at x h = let next : suc at ≡ at + 1 = omega arith in set_split xs at x h ∙ ap (λ n. take at xs ++ (x ∷ drop n xs)) next
+module _ {w w₁ : Writer} {p : List Int} (g : Wrote w p w₁) where
+  pub room_left : length (room w₁) ≡ length (room w) - length p
+  room_left = ap length g.before ∙ length-drop (length p) (room w)
 
-module _ (xs : List Int) (at : ℕ) (p : List Int) (h : at + length p ≤ length xs) where
-  long : length (take at xs ++ p) ≡ at + length p
-  long = length-append (take at xs) p ∙ ap (λ n. n + length p) (length-take-le at xs (omega arith))
-
-  pub length-written : length (written xs at p) ≡ length xs
-  length-written =
-      let a = length-append (take at xs) (p ++ drop (at + length p) xs) in
-      let b = length-append p (drop (at + length p) xs) in
-      let c = length-drop (at + length p) xs in
-      let d = length-take-le at xs (omega arith) in
-      omega arith
-
-  cut_at : written xs at p ≡ (take at xs ++ p) ++ drop (at + length p) xs
-  cut_at = sym (append_assoc (take at xs) p (drop (at + length p) xs))
-
-  pub written-written : (q : List Int) → written (written xs at p) (at + length p) q ≡ written xs at (p ++ q)
-  written-written q =
-      let n = at + length p in
-      let m = length q in
-      let before : take n (written xs at p) ≡ take at xs ++ p = ap (take n) cut_at ∙ take_at (take at xs ++ p) (drop n xs) n long in
-      let behind : drop n (written xs at p) ≡ drop n xs = ap (drop n) cut_at ∙ drop_at (take at xs ++ p) (drop n xs) n long in
-      let after : drop (n + m) (written xs at p) ≡ drop (n + m) xs = sym (drop-drop m n (written xs at p)) ∙ ap (drop m) behind ∙ drop-drop m n xs in
-      let place : n + m ≡ at + length (p ++ q) = omega (arith, length-append p q) in
-      ap₂ (λ (x y : List Int). x ++ (q ++ y)) before after ∙ append_assoc (take at xs) p (q ++ drop (n + m) xs)
-      ∙ ap (λ ys. take at xs ++ ys) (sym (append_assoc p q (drop (n + m) xs)) ∙ ap (λ i. (p ++ q) ++ drop i xs) place)
-
-module _ (xs : List Int) (at : ℕ) (p q : List Int) (b : Begins xs at (p ++ q)) where
-  pub begins_left : Begins xs at p
-  begins_left = record { rest = q ++ b.rest; is = b.is ∙ append_assoc p q b.rest }
-
-  pub begins_right : (n : ℕ) → length p ≡ n → Begins xs (at + n) q
-  begins_right n e = record {
-    rest = b.rest;
-    is = sym (drop-drop n at xs) ∙ ap (drop n) (b.is ∙ append_assoc p q b.rest) ∙ drop_at p (q ++ b.rest) n e;
+  pub wrote_on : {w₂ : Writer} {q : List Int} → Wrote w₁ q w₂ → Wrote w (p ++ q) w₂
+  wrote_on {w₂} {q} h = record {
+    place = omega (arith, g.place, h.place, length-append p q);
+    behind = cc (append_assoc (done w) p q);
+    before = cc (drop-drop (length q) (length p) (room w), length-append p q);
   }
 
-module _ (xs : List Int) (at : ℕ) (x : Int) (b : Begins xs at (x ∷ [])) where
-  pub begins_within : at < length xs
-  begins_within = let l : length (drop at xs) ≡ suc (length b.rest) = ap length b.is in omega (arith, length-drop at xs)
+  -- what stands there then
+  pub wrote-is : w₁.out.now ≡ (done w ++ p) ++ drop (length p) (room w)
+  wrote-is = cc (take-append-drop w₁.to w₁.out.now)
 
-  pub begins_at : (d : Int) → get_or xs at d ≡ x
-  begins_at d = ap (λ i. get_or xs i d) (sym (add-zero at)) ∙ sym (get_or-drop at xs 0 d) ∙ ap (λ ys. get_or ys 0 d) b.is
+-- ---- one after the other
+pub stuck : {A R : Type 0} {a : A} {x x' : R} {p : List Int} {w w' : Writer} → Goes a x p w None x' w' → ⊥
+stuck g = let e = g.is in cc
+
+module _ {A R : Type 0} {a : A} {x x' : R} {all p : List Int} (q : List Int) {w w₁ : Writer} {r : Option A} (split : all ≡ p ++ q)
+    (h : length all ≤ length (room w)) (goes : length p ≤ length (room w) → Goes a x p w r x' w₁) where
+  pub goes_first : Goes a x p w r x' w₁
+  goes_first = goes (omega (arith, ap length split, length-append p q))
+
+  -- and then what comes next, or else the first step was refused
+  pub goes_then : {B S N : Type 0} {b : B} {y y' : S} {w₂ : Writer} {s : Option B} → (r ≡ None) ⊎ N
+      → (N → x' ≡ x → length q ≤ length (room w₁) → Goes b y q w₁ s y' w₂) → Goes b y all w s y' w₂
+  goes_then (inl none) next = let e = goes_first.is in absurd (cc)
+  goes_then (inr more) next =
+      let g = goes_first in
+      let n = next more g.leaves (omega (arith, room_left g.wrote, ap length split, length-append p q)) in
+      rw split (record { is = n.is; leaves = n.leaves; wrote = wrote_on g.wrote n.wrote })
+
+-- another answer
+pub answered : {A B R : Type 0} {a : A} (b : B) {x x' : R} {p : List Int} {w w' : Writer} {r : Option A} → Goes a x p w r x' w' → Goes b x p w (Some b) x' w'
+answered b g = record { is = refl; leaves = g.leaves; wrote = g.wrote }

@@ -4,7 +4,7 @@ use Rattle.types.specs.Types.{Ty, parts}
 use Rattle.lang.specs.Values.{Val, size, sum_by}
 use Rattle.lang.specs.Layout.{cells, vectors}
 use Rattle.monoid.specs.declared.int.Int.{Int}
-use Rattle.vectors.specs.declared.span.Layout.{Layout}
+use Rattle.vectors.specs.declared.span.Span.{Span}
 use Rattle.vectors.specs.Vectors.{Countable, beside}
 use Rattle.vectors.specs.Placing.{Holds, Laid}
 use Rattle.vectors.specs.Gathering.{Joins}
@@ -25,11 +25,11 @@ AppendLaw = (t : Ty) (vs ws : List (Val t)) → vectors t (vs ++ ws) ≡ beside 
 abbrev pub VectorsFaithful : Type 0
 VectorsFaithful = (t : Ty) (vs ws : List (Val t)) → Countable (sum_by (size t) vs) → vectors t vs ≡ vectors t ws → vs ≡ ws
 
--- a layout holds the vectors of one value at most
+-- spans hold the vectors of one value at most
 abbrev pub LayoutFaithful : Type 0
 LayoutFaithful =
-    (t : Ty) (v w : Val t) (ints : List Int) (l : Layout) → Countable (size t v) → Holds ints l (vectors t (v ∷ []))
-    → Holds ints l (vectors t (w ∷ [])) → v ≡ w
+    (t : Ty) (v w : Val t) (ints : List Int) (spans : List Span) → Countable (size t v) → Holds ints spans (vectors t (v ∷ []))
+    → Holds ints spans (vectors t (w ∷ [])) → v ≡ w
 
 -- a value has as many cells as its size says
 abbrev pub CellsLaw : Type 0
@@ -43,8 +43,8 @@ CellsFaithful =
 -- a value that went into vectors comes back from them: to its cells, if there is room for them
 abbrev pub BackLaw : Type 0
 BackLaw =
-    (t : Ty) (v : Val t) (l : Layout) (out out' back : List Int) (r : Option ℕ) (back' : List Int) → Countable (size t v) → Laid t v l out out'
-    → Joins t out' l back r back' → parts t ≤ 8 → size t v ≤ length back → (r ≡ Some (size t v)) × (back' ≡ cells t v ++ drop (size t v) back)
+    (t : Ty) (v : Val t) (spans : List Span) (out out' back : List Int) (r : Option ℕ) (back' : List Int) → Countable (size t v)
+    → Laid t v spans out out' → Joins t out' spans back r back' → parts t ≤ 8 → size t v ≤ length back → (r ≡ Some (size t v)) × (back' ≡ cells t v ++ drop (size t v) back)
 
 pub record VectorLaws : Type 0 where
   pub number : PartsLaw

@@ -1,4 +1,5 @@
 pub mod Vectors
+pub mod Writing
 pub mod Walking
 pub mod Placing
 pub mod Gathering

@@ -1,12 +1,12 @@
 -- Where vectors stand among ints, and what the calls promise of them.
 use Rattle.std.specs.Prelude.{◌≡◌, ℕ, ◌+◌, ◌-◌, ◌<◌, ◌≤◌, ◌⊎◌, List, [], ◌∷◌, ◌++◌, map, length, take, drop, Some, None, Option}
+use Rattle.arrayvec.specs.ArrayVec.{ArrayVec}
 use Rattle.monoid.specs.declared.int.Int.{Int}
 use Rattle.monoid.specs.Segments.{concat}
 use Rattle.types.specs.Types.{Ty, parts}
 use Rattle.lang.specs.Values.{Val, size}
 use Rattle.lang.specs.Layout.{cells, vectors}
 use Rattle.vectors.specs.declared.span.Span.{Span}
-use Rattle.vectors.specs.declared.span.Layout.{Layout}
 use Rattle.vectors.specs.Vectors.{Countable}
 
 -- how many ints a span has
@@ -22,27 +22,23 @@ abbrev pub spans_from : ℕ → List (List Int) → List Span
 spans_from at [] = []
 spans_from at (v ∷ vs) = record { start = at; end = at + length v } ∷ spans_from (at + length v) vs
 
-abbrev pub spans_of : Layout → List Span
-spans_of l = take l.count l.spans
-
 -- span by span, the ints are the vectors
-pub record Holds (ints : List Int) (l : Layout) (vs : List (List Int)) : Type 0 where
-  pub number : l.count ≡ length vs
-  pub long : map extent (spans_of l) ≡ map length vs
-  pub held : map (entries ints) (spans_of l) ≡ vs
+pub record Holds (ints : List Int) (spans : List Span) (vs : List (List Int)) : Type 0 where
+  pub long : map extent spans ≡ map length vs
+  pub held : map (entries ints) spans ≡ vs
 
 -- the vectors of v were written one after the other, and what stands behind them is as it was
-pub record Laid (t : Ty) (v : Val t) (l : Layout) (out out' : List Int) : Type 0 where
-  pub number : l.count ≡ parts t
-  pub places : spans_of l ≡ spans_from 0 (vectors t (v ∷ []))
-  pub holds : Holds out' l (vectors t (v ∷ []))
+pub record Laid (t : Ty) (v : Val t) (spans : List Span) (out out' : List Int) : Type 0 where
+  pub number : length spans ≡ parts t
+  pub places : spans ≡ spans_from 0 (vectors t (v ∷ []))
+  pub holds : Holds out' spans (vectors t (v ∷ []))
   pub wrote : out' ≡ concat (vectors t (v ∷ [])) ++ drop (size t v) out
 
 -- the answer for a value, refused only for too many parts or too little room
-abbrev pub Places : (t : Ty) → Val t → List Int → Option Layout → List Int → Type 0
-Places t v out (Some l) out' = (parts t ≤ 8) × (size t v ≤ length out) × Laid t v l out out'
+abbrev pub Places : (t : Ty) → Val t → List Int → Option (ArrayVec Span) → List Int → Type 0
+Places t v out (Some l) out' = (parts t ≤ 8) × (size t v ≤ length out) × Laid t v l.items out out'
 Places t v out None out' = ((8 < parts t) ⊎ (length out < size t v)) × (out' ≡ out)
 
 -- the answer for the cells of a value
-abbrev pub Spreads : Ty → List Int → List Int → Option Layout → List Int → Type 0
+abbrev pub Spreads : Ty → List Int → List Int → Option (ArrayVec Span) → List Int → Type 0
 Spreads t cs out r out' = (v : Val t) → Countable (size t v) → cs ≡ cells t v → Places t v out r out'

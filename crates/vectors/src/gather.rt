@@ -1,145 +1,78 @@
-// From the vectors of a value to its cells. Each span begins at the next entry of its vector and moves on with it.
-ghost use Rattle.std.specs.Prelude.{◌<◌, ◌≤◌, length, Decides};
-ghost use Rattle.lang.specs.Values.{sum_by};
-ghost use Rattle.types.specs.Table.{types_in, type_of};
-ghost use Rattle.vectors.specs.Placing.{extent};
-ghost use Rattle.vectors.specs.Gathering.{Takes, Puts, Carries, Gathers, GathersAll, Joins};
+// From the vectors of a value to its cells. A vector is what is left of it: its entries are taken off its front.
+ghost use Rattle.std.specs.Prelude.{◌≡◌};
+ghost use Rattle.types.specs.TypeRefs.{meant};
+ghost use Rattle.vectors.specs.Gathering.{left, first, behind_first, Gathers, Found, Joins};
 
 use crate::length::length_of;
-use crate::span::{Layout, MAX_VECTORS, Span};
+use crate::span::{MAX_VECTORS, Span};
+use crate::writer::Writer;
+use arrayvec::ArrayVec;
 use monoid::int::Int;
-use types::node::TypeNode;
-use types::table::TypeTable;
+use types::type_ref::{Shape, TypeRef};
 
 // Takes the next entry of the first vector.
-fn next(ints: &[Int], spans: &mut [Span]) -> Option<Int>
-    ensures { Takes ints.now spans.old result spans.new }
+fn next(vectors: &mut [&[Int]]) -> Option<Int>
+    ensures entry { result ≡ first (left vectors.old) }
+    ensures rest { left vectors.new ≡ behind_first (left vectors.old) }
 {
-    if spans.len() == 0 {
+    let [vector, ..] = vectors else {
         return None;
-    }
-    let start = spans[0].start;
-    let end = spans[0].end;
-    if start >= end {
-        return None;
-    }
-    if start >= ints.len() {
-        return None;
-    }
-    spans[0] = Span {
-        start: start + 1,
-        end,
     };
-    Some(ints[start])
+    vector.split_off_first().copied()
 }
 
-// Puts an int at a place, and answers the place behind it.
-fn put(out: &mut [Int], to: usize, x: Int) -> Option<usize>
-    ensures { Puts out.old to x result out.new }
+// Takes the entries of the next value, whose vectors come first, and writes its cells.
+fn gather_value(t: TypeRef<'_>, vectors: &mut [&[Int]], cells: &mut Writer<'_>) -> Option<()>
+    ensures same_reference { cells.new.out.ghost_name ≡ cells.old.out.ghost_name }
+    ensures gathers { Gathers (meant t.entry) (left vectors.old) cells.old result (left vectors.new) cells.new }
 {
-    if to >= out.len() {
-        return None;
-    }
-    out[to] = x;
-    Some(to + 1)
-}
-
-// Takes the next entry of the first vector and puts it.
-fn carry(ints: &[Int], spans: &mut [Span], out: &mut [Int], to: usize) -> Option<usize>
-    ensures { Carries ints.now spans.old out.old to result spans.new out.new }
-{
-    let entry = next(ints, spans)?;
-    put(out, to, entry)
-}
-
-// Takes the entries of the next value and puts its cells.
-#[cycle(gather_value_gather_values)]
-fn gather_value(
-    types: &TypeTable,
-    code: usize,
-    ints: &[Int],
-    spans: &mut [Span],
-    out: &mut [Int],
-    to: usize,
-) -> Option<usize>
-    requires { code < length (types_in types.now) }
-    ensures { Gathers (type_of types.now code) ints.now spans.old out.old to result spans.new out.new }
-{
-    match types.node(code) {
-        TypeNode::Int => carry(ints, spans, out, to),
-        TypeNode::Bool => carry(ints, spans, out, to),
-        TypeNode::Pair(a, b) => {
-            let mid = types.parts(a);
-            if spans.len() < mid {
+    match t.shape() {
+        Shape::Int | Shape::Bool => cells.put(next(vectors)?),
+        Shape::Pair(a, b) => {
+            let count = a.parts();
+            if vectors.len() < count {
                 return None;
             }
-            let half = gather_value(types, a, ints, &mut spans[..mid], out, to)?;
-            gather_value(types, b, ints, &mut spans[mid..], out, half)
+            gather_value(a, vectors, cells)?;
+            gather_value(b, &mut vectors[count..], cells)
         }
-        TypeNode::List(element) => {
-            let entry = next(ints, spans)?;
+        Shape::List(element) => {
+            let entry = next(vectors)?;
             let count = length_of(entry)?;
-            let inside = put(out, to, entry)?;
-            gather_values(types, element, count, ints, &mut spans[1..], out, inside)
+            cells.put(entry)?;
+            let elements = &mut vectors[1..];
+            for _ in 0..count {
+                gather_value(element, elements, cells)?;
+            }
+            Some(())
         }
     }
 }
 
-// The same for `count` values, one after the other.
-#[cycle(gather_value_gather_values)]
-fn gather_values(
-    types: &TypeTable,
-    code: usize,
-    count: usize,
-    ints: &[Int],
-    spans: &mut [Span],
-    out: &mut [Int],
-    to: usize,
-) -> Option<usize>
-    requires { code < length (types_in types.now) }
-    ensures { GathersAll (type_of types.now code) count ints.now spans.old out.old to result spans.new out.new }
+// The vectors that stand there, unless they are more than 8 or have more entries than there is room for.
+fn vectors_at<'a>(
+    ints: &'a [Int],
+    spans: &[Span],
+    mut room: usize,
+) -> Option<ArrayVec<&'a [Int], MAX_VECTORS>>
+    ensures { Found ints.now spans.now room result }
 {
-    let mut at = to;
-    for _ in 0..count {
-        at = gather_value(types, code, ints, spans, out, at)?;
-    }
-    Some(at)
-}
-
-// Whether there is room for the entries of all.
-fn has_room(spans: &[Span], room: usize) -> bool
-    ensures { Decides result (sum_by extent spans.now ≤ room) }
-{
-    let mut left = room;
+    let mut vectors = ArrayVec::new();
     for span in spans {
-        let extent = span.end.saturating_sub(span.start);
-        if left < extent {
-            return false;
-        }
-        left -= extent;
+        let vector = span.entries(ints);
+        room = room.checked_sub(vector.len())?;
+        vectors.try_push(vector).ok()?;
     }
-    true
+    Some(vectors)
 }
 
-// Writes the cells of the value whose vectors stand there, and answers how many. Refused where the layout has more than 8 vectors or there
-// is less room than entries; vectors that are no value's may be refused too.
-pub fn to_cells(
-    types: &TypeTable,
-    code: usize,
-    ints: &[Int],
-    layout: Layout,
-    out: &mut [Int],
-) -> Option<usize>
-    requires { code < length (types_in types.now) }
-    ensures { Joins (type_of types.now code) ints.now layout out.old result out.new }
+// Writes the cells of the value whose vectors stand there, and answers how many. Refused where there are more than 8 vectors or there is
+// less room than entries; vectors that are no value's may be refused too.
+pub fn to_cells(t: TypeRef<'_>, ints: &[Int], spans: &[Span], out: &mut [Int]) -> Option<usize>
+    ensures { Joins (meant t.entry) ints.now spans.now out.old result out.new }
 {
-    let count = layout.count;
-    if count > MAX_VECTORS {
-        return None;
-    }
-    let mut spans = layout.spans;
-    if !has_room(&spans[..count], out.len()) {
-        return None;
-    }
-    gather_value(types, code, ints, &mut spans[..count], out, 0)
+    let mut vectors = vectors_at(ints, spans, out.len())?;
+    let mut cells = Writer { out, to: 0 };
+    gather_value(t, vectors.as_mut_slice(), &mut cells)?;
+    Some(cells.to)
 }

@@ -5,6 +5,7 @@ pub mod gather;
 mod length;
 pub mod span;
 pub mod spread;
+mod writer;
 
 ghost use Rattle.vectors.specs.Example.{SampleCells, SampleVectors};
 ghost use Rattle.vectors.specs.Laws.{VectorLaws, CellLaws, BackLaw};

@@ -1,126 +1,87 @@
 // From the cells of a value to its vectors. Each vector is written by a walk of its own over the cells.
-ghost use Rattle.std.specs.Prelude.{◌<◌, length};
-ghost use Rattle.types.specs.Table.{types_in, type_of};
+ghost use Rattle.std.specs.Prelude.{◌≡◌};
+ghost use Rattle.types.specs.TypeRefs.{meant};
 ghost use Rattle.vectors.specs.Placing.{Spreads};
-ghost use Rattle.vectors.specs.Walking.{Walks, WalksAll, Steps, Past};
+ghost use Rattle.vectors.specs.Walking.{Steps, Walks, Past};
 
-use crate::length::length_at;
+use crate::length::length_of;
 use crate::span::{Layout, MAX_VECTORS, Span};
+use crate::writer::Writer;
 use monoid::int::Int;
-use types::node::TypeNode;
-use types::table::TypeTable;
+use types::type_ref::{Shape, TypeRef};
 
-// How far a walk has come: its next cell, and where the next entry goes.
-#[derive(Clone, Copy)]
-struct Walk {
-    at: usize,
-    to: usize,
-}
-
-// Which of the vectors behind the first `passed` is wanted: none if the wanted one is among the first.
-fn past(wanted: usize, passed: usize) -> usize
+// Which of the vectors behind the first `passed` is wanted, if it is none of the first.
+fn past(wanted: Option<usize>, passed: usize) -> Option<usize>
     ensures { Past wanted passed result }
 {
-    if wanted < passed {
-        MAX_VECTORS
-    } else {
-        wanted - passed
-    }
+    wanted?.checked_sub(passed)
 }
 
-// Goes one cell on, which is an entry of the vector 0.
-fn step(wanted: usize, cells: &[Int], walk: Walk, out: &mut [Int]) -> Option<Walk>
-    ensures { Steps wanted cells.now walk out.old result out.new }
+// Goes over the next cell, which is an entry of the vector 0, and answers it.
+fn step(wanted: Option<usize>, cells: &mut &[Int], entries: &mut Writer<'_>) -> Option<Int>
+    ensures same_reference { entries.new.out.ghost_name ≡ entries.old.out.ghost_name }
+    ensures steps { Steps wanted cells.old.now entries.old result cells.new.now entries.new }
 {
-    let at = walk.at;
-    let to = walk.to;
-    if at >= cells.len() {
-        return None;
+    let cell = *cells.split_off_first()?;
+    if wanted == Some(0) {
+        entries.put(cell)?;
     }
-    if wanted != 0 {
-        return Some(Walk { at: at + 1, to });
-    }
-    if to >= out.len() {
-        return None;
-    }
-    out[to] = cells[at];
-    Some(Walk {
-        at: at + 1,
-        to: to + 1,
-    })
+    Some(cell)
 }
 
-// Goes over the cells of a value and writes the entries of its wanted vector.
-#[cycle(walk_value_walk_values)]
+// Goes over the cells of the next value and writes the entries of its wanted vector.
 fn walk_value(
-    types: &TypeTable,
-    code: usize,
-    wanted: usize,
-    cells: &[Int],
-    walk: Walk,
-    out: &mut [Int],
-) -> Option<Walk>
-    requires { code < length (types_in types.now) }
-    ensures { Walks (type_of types.now code) wanted cells.now walk out.old result out.new }
+    t: TypeRef<'_>,
+    wanted: Option<usize>,
+    cells: &mut &[Int],
+    entries: &mut Writer<'_>,
+) -> Option<()>
+    ensures same_reference { entries.new.out.ghost_name ≡ entries.old.out.ghost_name }
+    ensures walks { Walks (meant t.entry) wanted cells.old.now entries.old result cells.new.now entries.new }
 {
-    match types.node(code) {
-        TypeNode::Int => step(wanted, cells, walk, out),
-        TypeNode::Bool => step(wanted, cells, walk, out),
-        TypeNode::Pair(a, b) => {
-            let half = walk_value(types, a, wanted, cells, walk, out)?;
-            walk_value(types, b, past(wanted, types.parts(a)), cells, half, out)
+    match t.shape() {
+        Shape::Int | Shape::Bool => {
+            step(wanted, cells, entries)?;
+            Some(())
         }
-        TypeNode::List(element) => {
-            let count = length_at(cells, walk.at)?;
-            let inside = step(wanted, cells, walk, out)?;
-            walk_values(types, element, count, past(wanted, 1), cells, inside, out)
+        Shape::Pair(a, b) => {
+            let behind = past(wanted, a.parts());
+            walk_value(a, wanted, cells, entries)?;
+            walk_value(b, behind, cells, entries)
+        }
+        Shape::List(element) => {
+            let behind = past(wanted, 1);
+            let count = length_of(step(wanted, cells, entries)?)?;
+            for _ in 0..count {
+                walk_value(element, behind, cells, entries)?;
+            }
+            Some(())
         }
     }
-}
-
-// The same over the cells of `count` values, one after the other.
-#[cycle(walk_value_walk_values)]
-fn walk_values(
-    types: &TypeTable,
-    code: usize,
-    count: usize,
-    wanted: usize,
-    cells: &[Int],
-    start: Walk,
-    out: &mut [Int],
-) -> Option<Walk>
-    requires { code < length (types_in types.now) }
-    ensures { WalksAll (type_of types.now code) count wanted cells.now start out.old result out.new }
-{
-    let mut walk = start;
-    for _ in 0..count {
-        walk = walk_value(types, code, wanted, cells, walk, out)?;
-    }
-    Some(walk)
 }
 
 // Writes the vectors of the value whose cells these are, one after the other. Refused where the type has more than 8 parts or there is
 // less room than cells; cells that are no value's may be refused too.
-pub fn to_vectors(types: &TypeTable, code: usize, cells: &[Int], out: &mut [Int]) -> Option<Layout>
-    requires { code < length (types_in types.now) }
-    ensures { Spreads (type_of types.now code) cells.now out.old result out.new }
+pub fn to_vectors(t: TypeRef<'_>, cells: &[Int], out: &mut [Int]) -> Option<Layout>
+    ensures { Spreads (meant t.entry) cells.now out.old result out.new }
 {
-    let count = types.parts(code);
+    let count = t.parts();
     if count > MAX_VECTORS {
         return None;
     }
     if out.len() < cells.len() {
         return None;
     }
-    let mut spans = [Span { start: 0, end: 0 }; 8];
-    let mut start = 0;
+    let mut layout = Layout::new();
+    let mut entries = Writer { out, to: 0 };
     for k in 0..count {
-        let walk = walk_value(types, code, k, cells, Walk { at: 0, to: start }, out)?;
-        spans[k] = Span {
+        let start = entries.to;
+        let mut rest = cells;
+        walk_value(t, Some(k), &mut rest, &mut entries)?;
+        layout.push(Span {
             start,
-            end: walk.to,
-        };
-        start = walk.to;
+            end: entries.to,
+        });
     }
-    Some(Layout { spans, count })
+    Some(layout)
 }

@@ -1,12 +1,12 @@
 -- Tests of kinds, numbers and names that come with what they show.
-use Rattle.std.proofs.Common.{◌≡◌, ℕ, ◌≤◌, Bool, true, false, eqb, ltb, leb, refl, eqb-true}
+use Rattle.std.proofs.Common.{◌≡◌, ℕ, ◌≤◌, Bool, true, false, eqb, leb, refl, eqb-true}
 use mathlib.Core.Option.{Option, none, some}
 use Rattle.std.proofs.lemmas.Bool.{leb-true, false≢true}
 use Rattle.tokens.specs.declared.kind.Kind.{Kind}
 use Rattle.tokens.specs.declared.kind.Kind.TheVariants as kind
 use Rattle.tokens.specs.declared.kind.Name.{Name}
-use Rattle.tokens.specs.Kinds.{code}
-use Rattle.grammar.proofs.Codes.{same_kind}
+use Rattle.tokens.specs.contracts.kind.KindPartialEq.TheImpl.{ghosts}
+use Rattle.tokens.proofs.Same.{same}
 
 abbrev pub and_then : {A B : Type 0} → Option A → (A → Option B) → Option B
 and_then none f = none
@@ -36,9 +36,9 @@ number? m n = and_then (true? (eqb m n)) λ e. some (eqb-true m n e)
 abbrev pub most? : (m n : ℕ) → Option (m ≤ n)
 most? m n = and_then (true? (leb m n)) λ e. some (leb-true m n e)
 
--- a kind without a name or a number
+-- a kind
 abbrev pub kind? : (k l : Kind) → Option (k ≡ l)
-kind? k l = and_then (true? (ltb 6 (code l))) λ h. and_then (number? (code k) (code l)) λ e. some (same_kind k l h e)
+kind? k l = and_then (true? (ghosts.eq k l)) λ h. some (same k l _ refl h)
 
 abbrev pub name? : (k : Kind) → Option ((n : Name) × (k ≡ Kind.Name n))
 name? kind.End = none

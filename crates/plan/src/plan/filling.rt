@@ -2,7 +2,7 @@
 ghost use Rattle.std.specs.Prelude.{◌≡◌, ◌≤◌, map, length};
 ghost use Rattle.types.specs.Table.{types_in};
 ghost use Rattle.lang.specs.Check.{Checked};
-ghost use Rattle.typing.specs.Codes.{Under, note_codes, note_of};
+ghost use Rattle.typing.specs.Codes.{note_of};
 ghost use Rattle.program.specs.Answers.{Is};
 ghost use Rattle.plan.specs.Filling.{empty, run, typed};
 ghost use Rattle.plan.specs.Holding.{held, entries_of, frees_of, Plans};
@@ -17,14 +17,13 @@ impl Plan {
     // All occurrences, each with its note.
     fn add_all(&mut self, types: &TypeTable, occurrences: &[Occurrence], notes: &[Note])
         requires new { held self.old ≡ empty }
-        requires few { (length occurrences.now ≤ 1024) × (length occurrences.now ≤ length notes.now) }
-        requires within { Under (length (types_in types.now)) (note_codes notes.now) }
+        requires few { length occurrences.now ≤ 1024 }
         requires frees { length (run (typed occurrences.now (map (note_of (types_in types.now)) notes.now)) empty).frees ≤ 2000 }
         ensures holds { held self.new ≡ run (typed occurrences.now (map (note_of (types_in types.now)) notes.now)) empty }
         ensures few { length (held self.new).entries ≤ 1024 }
     {
-        for (i, o) in occurrences.iter().enumerate() {
-            self.step(types, o.what, o.place, notes[i]);
+        for (o, note) in occurrences.iter().zip(notes) {
+            self.step(*o, types.get(note.code), note.index);
         }
     }
 

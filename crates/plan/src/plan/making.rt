@@ -1,4 +1,6 @@
 // A new plan, and what a plan has.
+#![tactic(auto, unfolding(crate::specs::Holding::held))]
+
 ghost use Rattle.std.specs.Prelude.{◌≡◌, [], IfOk};
 ghost use Rattle.plan.specs.Filling.{empty};
 ghost use Rattle.plan.specs.Holding.{held, entries_of, frees_of};

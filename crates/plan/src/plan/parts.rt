@@ -1,9 +1,11 @@
 // The parts of a table that is being filled.
-ghost use Rattle.std.specs.Prelude.{◌≡◌, ◌<◌, length};
-ghost use Rattle.plan.specs.Filling.{added, put as put_at, entered, left, logged};
+#![tactic(auto, unfolding(crate::specs::Holding::held))]
+
+ghost use Rattle.std.specs.Prelude.{◌≡◌, ◌-◌, ◌<◌, length};
+ghost use Rattle.plan.specs.Filling.{added, put, entered, left, logged};
 ghost use Rattle.plan.specs.Holding.{held};
 
-use super::super::table::{Entry, Mark};
+use super::super::table::Entry;
 use super::Plan;
 use typing::parts::Use;
 
@@ -15,20 +17,20 @@ impl Plan {
         self.entries.len()
     }
 
-    pub(super) fn add(&mut self, mark: Mark, place: usize)
+    pub(super) fn add(&mut self, entry: Entry)
         requires { length (held self.old).entries < 1024 }
-        ensures { held self.new ≡ added mark place (held self.old) }
+        ensures { held self.new ≡ added entry.mark entry.place (held self.old) }
     {
-        self.entries.push_reserved(Entry { mark, place });
+        self.entries.push_reserved(entry);
     }
 
-    // Replaces an earlier entry.
-    pub(super) fn put(&mut self, at: usize, mark: Mark, place: usize)
-        ensures holds { held self.new ≡ put_at at mark place (held self.old) }
+    // Replaces the entry before this place.
+    pub(super) fn put_before(&mut self, place: usize, entry: Entry)
+        ensures holds { held self.new ≡ put (place - 1) entry.mark entry.place (held self.old) }
         ensures entries { length (held self.new).entries ≡ length (held self.old).entries }
     {
-        if at < self.entries.len() {
-            self.entries[at] = Entry { mark, place };
+        if let Some(earlier) = self.entries.get_mut(place.saturating_sub(1)) {
+            *earlier = entry;
         }
     }
 
@@ -43,8 +45,7 @@ impl Plan {
     pub(super) fn leave(&mut self)
         ensures { held self.new ≡ left (held self.old) }
     {
-        let n = self.scope.len();
-        self.scope.truncate(n.saturating_sub(1));
+        let _ = self.scope.pop();
     }
 
     // How many variables are in scope.

@@ -1,94 +1,119 @@
 // One occurrence after another.
-ghost use Rattle.std.specs.Prelude.{◌≡◌, ◌<◌, ◌≤◌, length};
-ghost use Rattle.types.specs.Table.{types_in, type_of};
-ghost use Rattle.judging.specs.Acts.{noted_as};
-ghost use Rattle.typing.specs.Codes.{note_of};
-ghost use Rattle.plan.specs.declared.table.Mark.{Mark};
-ghost use Rattle.plan.specs.Filling.{added, each_joined, left, first_boxed, second_boxed, unary, one};
-ghost use Rattle.plan.specs.declared.table.Task.TheVariants.{MakePair};
+ghost use Rattle.std.specs.Prelude.{◌≡◌, ◌≤◌, length, pos};
+ghost use Rattle.monoid.specs.Ints.{int_of};
+ghost use Rattle.types.specs.TypeRefs.{meant};
+ghost use Rattle.judging.specs.Acts.{resolved};
+ghost use Rattle.plan.specs.declared.table.Task.TheVariants.{MakePair, Bracket};
+ghost use Rattle.plan.specs.Filling.{elements_boxed, first_boxed, second_boxed, unary, one};
 ghost use Rattle.plan.specs.Holding.{held, Room};
 
 use super::super::boxes::{boxed, elements_boxed, first_boxed, inner_boxed, second_boxed};
-use super::super::table::Task;
-use super::super::word::number;
+use super::super::table::{Mark, Span, Task};
 use super::Plan;
-use grammar::occurrence::{Unary, What};
+use grammar::occurrence::{Occurrence, Unary, What};
 use monoid::int::Int;
-use types::table::TypeTable;
-use typing::parts::Note;
+use types::type_ref::TypeRef;
+use typing::parts::Use;
+
+// The int that a number of a program is.
+fn number(value: u32) -> Int
+    ensures { result ≡ int_of (pos value) }
+{
+    Int::new(value.cast_signed())
+}
 
 // The task of a word before an operand, by the type of its result.
-fn task(types: &TypeTable, op: Unary, code: usize) -> Task
-    requires { code < length (types_in types.now) }
-    ensures { result ≡ unary op (type_of types.now code) }
+fn task(op: Unary, t: TypeRef<'_>) -> Task
+    ensures { result ≡ unary op (meant t.entry) }
 {
     match op {
-        Unary::Fst => Task::First(boxed(types, code)),
-        Unary::Snd => Task::Second(boxed(types, code)),
+        Unary::Fst => Task::First { boxed: boxed(t) },
+        Unary::Snd => Task::Second { boxed: boxed(t) },
         Unary::Len => Task::Length,
         Unary::Range => Task::Range,
         Unary::Flat => Task::Flat,
     }
 }
 
+// The task of a pair, by its type.
+fn pair(t: TypeRef<'_>) -> Task
+    ensures { result ≡ MakePair (first_boxed (meant t.entry)) (second_boxed (meant t.entry)) }
+{
+    let first = first_boxed(t);
+    let second = second_boxed(t);
+    Task::MakePair { first, second }
+}
+
+// The task of a list in brackets, by its type.
+fn bracket(count: usize, t: TypeRef<'_>) -> Task
+    ensures { result ≡ Bracket count (elements_boxed (meant t.entry)) }
+{
+    let boxed = elements_boxed(t);
+    Task::Bracket { count, boxed }
+}
+
 impl Plan {
-    fn pair(&mut self, types: &TypeTable, code: usize, place: usize)
+    // One occurrence, with the type that was noted of it, and of a variable how many stand inside it.
+    pub(super) fn step(&mut self, o: Occurrence, t: TypeRef<'_>, index: usize)
         requires room { Room (held self.old) }
-        requires within { code < length (types_in types.now) }
-        ensures { held self.new ≡ added (Mark.Basic (MakePair (first_boxed (type_of types.now code)) (second_boxed (type_of types.now code)))) place (held self.old) }
+        requires frees { length (one (resolved o (record { type = meant t; index = index })) (held self.old)).frees ≤ 2000 }
+        ensures { held self.new ≡ one (resolved o (record { type = meant t.entry; index = index })) (held self.old) }
     {
-        let first = first_boxed(types, code);
-        let second = second_boxed(types, code);
-        self.basic(Task::MakePair(first, second), place);
-    }
-
-    // The variable of a comprehension is left, and then come the free variables.
-    fn sweep(&mut self, boxed: bool, place: usize)
-        requires room { Room (held self.old) }
-        requires frees { length (each_joined boxed place (left (held self.old))).frees ≤ 2000 }
-        ensures { held self.new ≡ each_joined boxed place (left (held self.old)) }
-    {
-        self.leave();
-        self.each_join(boxed, place);
-    }
-
-    // One occurrence, with what was noted of it.
-    pub(super) fn step(&mut self, types: &TypeTable, what: What, place: usize, note: Note)
-        requires room { Room (held self.old) }
-        requires within { note.code < length (types_in types.now) }
-        requires frees { length (one (noted_as what place (note_of (types_in types.now) note)) (held self.old)).frees ≤ 2000 }
-        ensures { held self.new ≡ one (noted_as what place (note_of (types_in types.now) note)) (held self.old) }
-    {
-        let code = note.code;
+        let Occurrence { what, place } = o;
+        // jumps and free variables come with the join
+        let (join, second) = (0, 0);
+        let frees = Span { from: 0, to: 0 };
         match what {
-            What::Number(value) => self.leaf(number(value), place),
-            What::True => self.leaf(Int::one(), place),
-            What::False => self.leaf(Int::zero(), place),
-            What::Variable(_) => self.variable(note.index, place),
-            What::Bind(_) => self.bind(boxed(types, code), place),
-            What::LetEnd => self.let_end(place),
-            What::IfFork => self.if_fork(place),
-            What::IfElse => self.if_else(place),
-            What::IfJoin => self.if_join(boxed(types, code), place),
-            What::EachFork(_) => self.each_fork(elements_boxed(types, code), place),
-            What::EachFilter => self.each_filter(place),
-            What::EachJoin => self.sweep(elements_boxed(types, code), place),
-            What::Operate(op) => self.basic(Task::Operate(op), place),
-            What::Apply(op) => self.basic(task(types, op, code), place),
-            What::Index => self.basic(Task::Index(boxed(types, code)), place),
-            What::Group => self.group(place),
-            What::Pair => self.pair(types, code, place),
-            What::List(n) => self.basic(Task::Bracket(n, elements_boxed(types, code)), place),
-            What::Empty => self.basic(Task::Hollow, place),
-            What::Part => self.basic(Task::Part(inner_boxed(types, code)), place),
-            What::Scan(op) => self.basic(Task::Scan(op), place),
-            What::Reduce(op) => self.basic(Task::Reduce(op), place),
-            What::Parameter(_) => self.enter(boxed(types, code)),
-            What::TypeInt => {}
-            What::TypeBool => {}
-            What::TypePair => {}
-            What::TypeList => {}
-            What::Result => {}
+            What::Number(value) => self.add(Mark::Leaf(number(value)).at(place)),
+            What::True => self.add(Mark::Leaf(Int::one()).at(place)),
+            What::False => self.add(Mark::Leaf(Int::zero()).at(place)),
+            What::Variable(_) => {
+                let depth = self.depth();
+                self.log(Use { depth, index });
+                self.add(Mark::Variable(index).at(place));
+            }
+            What::Bind(_) => {
+                self.add(Mark::Bind.at(place));
+                self.enter(boxed(t));
+            }
+            What::LetEnd => {
+                self.add(Mark::LetEnd.at(place));
+                self.leave();
+            }
+            What::IfFork => {
+                self.add(Mark::IfFork { second, frees }.at(place));
+                self.open();
+            }
+            What::IfElse => {
+                self.add(Mark::IfElse { join }.at(place));
+                self.halve();
+            }
+            What::IfJoin => self.if_join(boxed(t), place),
+            What::EachFork(_) => {
+                self.add(Mark::EachFork { join, frees }.at(place));
+                self.open();
+                self.enter(elements_boxed(t));
+            }
+            What::EachFilter => {
+                self.add(Mark::EachFilter { join }.at(place));
+                self.halve();
+            }
+            What::EachJoin => self.each_join(elements_boxed(t), place),
+            What::Operate(op) => self.add(Task::Operate(op).at(place)),
+            What::Apply(op) => self.add(task(op, t).at(place)),
+            What::Index => self.add(Task::Index { boxed: boxed(t) }.at(place)),
+            What::Group => self.add(Mark::Group.at(place)),
+            What::Pair => self.add(pair(t).at(place)),
+            What::List(count) => self.add(bracket(count, t).at(place)),
+            What::Empty => self.add(Task::Hollow.at(place)),
+            What::Part => {
+                let boxed = inner_boxed(t);
+                self.add(Task::Part { boxed }.at(place));
+            }
+            What::Scan(op) => self.add(Task::Scan(op).at(place)),
+            What::Reduce(op) => self.add(Task::Reduce(op).at(place)),
+            What::Parameter(_) => self.enter(boxed(t)),
+            What::TypeInt | What::TypeBool | What::TypePair | What::TypeList | What::Result => {}
         }
     }
 }

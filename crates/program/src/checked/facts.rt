@@ -1,16 +1,18 @@
 // What a checked program is.
-ghost use Rattle.std.specs.Prelude.{◌≡◌, ◌<◌, ◌≤◌, map, length};
+ghost use Rattle.std.specs.Prelude.{◌≡◌, ◌≤◌, map, length};
 ghost use Rattle.types.specs.Table.{types_in};
+ghost use Rattle.types.specs.TypeRefs.{meant};
 ghost use Rattle.lang.specs.Check.{Checked};
 ghost use Rattle.judging.specs.Acts.{Resolves};
 ghost use Rattle.judging.specs.Occurrences.{program_occs};
 ghost use Rattle.typing.specs.Codes.{Under, note_codes, note_of};
-ghost use Rattle.program.specs.Answers.{done_in, types_of, noted, type_of, Is, IsMemoryOf};
+ghost use Rattle.program.specs.Answers.{done_in, types_of, noted, Is, IsMemoryOf};
 
 use super::super::memory::Memory;
 use super::CheckedProgram;
 use grammar::occurrence::Occurrence;
 use types::table::TypeTable;
+use types::type_ref::TypeRef;
 use typing::parts::Note;
 
 impl CheckedProgram {
@@ -18,14 +20,14 @@ impl CheckedProgram {
     pub fn occurrences(&self) -> &[Occurrence]
         ensures { result.now ≡ done_in self.now }
     {
-        self.table.occurrences()
+        self.memory.table.occurrences()
     }
 
     // Its types; others speak of them by their codes.
     pub fn types(&self) -> &TypeTable
         ensures { result.now ≡ types_of self.now }
     {
-        self.checker.types()
+        self.memory.checker.types()
     }
 
     // The type that each occurrence leaves uppermost, and of a variable how many were bound inside it.
@@ -34,37 +36,45 @@ impl CheckedProgram {
         ensures within { Under (length (types_in (types_of self.now))) (note_codes result.now) }
         ensures typed { (c : Checked) → Is self.now c → Resolves (done_in self.now) (map (note_of (types_in (types_of self.now))) result.now) (program_occs c) }
     {
-        self.checker.notes()
+        self.memory.checker.notes()
     }
 
-    // The code of main's parameter type.
-    pub fn parameter(&self) -> usize
-        ensures within { result < length (types_in (types_of self.now)) }
-        ensures is { (c : Checked) → Is self.now c → type_of self.now result ≡ c.parameter }
+    // main's parameter type, one of its types.
+    pub fn parameter(&self) -> TypeRef<'_>
+        ensures table { result.table.now ≡ types_of self.now }
+        ensures is { (c : Checked) → Is self.now c → meant result ≡ c.parameter }
     {
-        self.checker.innermost()
+        let code = self.memory.checker.innermost();
+        TypeRef {
+            table: self.types(),
+            code,
+        }
     }
 
-    // The code of main's result type.
-    pub fn result(&self) -> usize
-        ensures within { result < length (types_in (types_of self.now)) }
-        ensures is { (c : Checked) → Is self.now c → type_of self.now result ≡ c.result }
+    // main's result type, one of its types.
+    pub fn result(&self) -> TypeRef<'_>
+        ensures table { result.table.now ≡ types_of self.now }
+        ensures is { (c : Checked) → Is self.now c → meant result ≡ c.result }
     {
-        self.checker.uppermost()
+        let code = self.memory.checker.uppermost();
+        TypeRef {
+            table: self.types(),
+            code,
+        }
     }
 
     pub fn weight(&self) -> usize
         ensures is { (c : Checked) → Is self.now c → result ≡ c.weight }
         ensures light { result ≤ 2000 }
     {
-        self.checker.weight()
+        self.memory.checker.weight()
     }
 
     // Its memory, for another program.
     pub fn release(self) -> Memory
         ensures { IsMemoryOf self result }
     {
-        let CheckedProgram { table, checker } = self;
-        Memory { table, checker }
+        let CheckedProgram { memory } = self;
+        memory
     }
 }

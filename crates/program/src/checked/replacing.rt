@@ -3,8 +3,6 @@ ghost use Rattle.program.specs.Answers.{Replaced};
 
 use super::super::fault::LoadFault;
 use super::super::memory::Memory;
-use super::super::memory::loading::fill;
-use super::super::read::checking::judge;
 use super::CheckedProgram;
 use std::mem::swap;
 
@@ -13,10 +11,9 @@ impl CheckedProgram {
     pub fn replace(&mut self, spare: &mut Memory, text: &[u8]) -> Result<(), LoadFault>
         ensures { Replaced text.now self.old self.new result }
     {
-        fill(&mut spare.table, text)?;
-        judge(&spare.table, &mut spare.checker)?;
-        swap(&mut self.table, &mut spare.table);
-        swap(&mut self.checker, &mut spare.checker);
+        spare.fill(text)?;
+        spare.judge()?;
+        swap(&mut self.memory, spare);
         Ok(())
     }
 }

@@ -13,13 +13,6 @@ use reader::table::Table;
 use std::alloc::{AllocError, Global};
 use typing::checker::Checker;
 
-// Reads the text into the table.
-pub(crate) fn fill(table: &mut Table, text: &[u8]) -> Result<(), ReadFault>
-    ensures { MatchResult result (λ _. Tabled text.now table.new) (λ f. Rejects text.now f) }
-{
-    table.read(text)
-}
-
 impl Memory {
     // Takes all the memory that a program needs.
     pub fn new(heap: Global) -> Result<Memory, AllocError>
@@ -30,16 +23,22 @@ impl Memory {
         Ok(Memory { table, checker })
     }
 
+    // Reads the text into the table.
+    pub(crate) fn fill(&mut self, text: &[u8]) -> Result<(), ReadFault>
+        ensures { MatchResult result (λ _. Tabled text.now self.new.table) (λ f. Rejects text.now f) }
+    {
+        self.table.read(text)
+    }
+
     // The program that the text is, read, or why it is none.
-    pub fn read(self, text: &[u8]) -> Result<ReadProgram, Rejected>
+    pub fn read(mut self, text: &[u8]) -> Result<ReadProgram, Rejected>
         ensures { ReadAs text.now result }
     {
-        let Memory { mut table, checker } = self;
-        match fill(&mut table, text) {
-            Ok(()) => Ok(ReadProgram { table, checker }),
+        match self.fill(text) {
+            Ok(()) => Ok(ReadProgram { memory: self }),
             Err(fault) => Err(Rejected {
                 fault: LoadFault::from(fault),
-                memory: Memory { table, checker },
+                memory: self,
             }),
         }
     }

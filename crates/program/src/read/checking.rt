@@ -11,17 +11,18 @@ use super::super::fault::LoadFault;
 use super::super::memory::{Memory, Rejected};
 use super::ReadProgram;
 use grammar::occurrence::Occurrence;
-use reader::table::Table;
-use typing::checker::Checker;
 use typing::fault::CheckFault;
 
-// Judges the program that the table has.
-pub(crate) fn judge(table: &Table, checker: &mut Checker) -> Result<(), CheckFault>
-    requires read { IsRead table.now }
-    requires few { Few table.now }
-    ensures { MatchResult result (λ _. IsChecked table.now checker.new × Accepts (occurrences_of table.now) (held checker.new)) (λ f. Refuses (occurrences_of table.now) (of_check f)) }
-{
-    checker.judge_program(table.occurrences())
+impl Memory {
+    // Judges the program that the table has.
+    pub(crate) fn judge(&mut self) -> Result<(), CheckFault>
+        requires read { IsRead self.old.table }
+        requires few { Few self.old.table }
+        ensures table { self.new.table ≡ self.old.table }
+        ensures judged { MatchResult result (λ _. IsChecked self.new.table self.new.checker × Accepts (occurrences_of self.old.table) (held self.new.checker)) (λ f. Refuses (occurrences_of self.old.table) (of_check f)) }
+    {
+        self.checker.judge_program(self.table.occurrences())
+    }
 }
 
 impl ReadProgram {
@@ -29,19 +30,19 @@ impl ReadProgram {
     pub fn occurrences(&self) -> &[Occurrence]
         ensures { result.now ≡ read_in self.now }
     {
-        self.table.occurrences()
+        self.memory.table.occurrences()
     }
 
     // The same program, checked, or the first refusal.
     pub fn check(self) -> Result<CheckedProgram, Rejected>
         ensures { CheckedAs (read_in self) result }
     {
-        let ReadProgram { table, mut checker } = self;
-        match judge(&table, &mut checker) {
-            Ok(()) => Ok(CheckedProgram { table, checker }),
+        let ReadProgram { mut memory } = self;
+        match memory.judge() {
+            Ok(()) => Ok(CheckedProgram { memory }),
             Err(fault) => Err(Rejected {
                 fault: LoadFault::from(fault),
-                memory: Memory { table, checker },
+                memory,
             }),
         }
     }

@@ -1,24 +1,28 @@
-use Rattle.std.proofs.Common.{rules}
+use Rattle.std.proofs.Common.{◌≡◌, ap, ◌∙◌, length, arith, rules}
+use Rattle.std.proofs.lemmas.List.{length-map}
 use Rattle.std.proofs.lemmas.Result.{err_from_is_err_and}
-use Rattle.totals.proofs.Whole.{lengths_fit, totalled, no_room, lent_rows}
+use Rattle.monoid.specs.Ints.{wrapped_sum}
+use Rattle.monoid.specs.Segments.{cut}
+use Rattle.monoid.proofs.Segments.{length_cut}
+use Rattle.totals.proofs.Whole.{totalled, no_room}
 use Rattle.totals.proofs.totals.Goals as goal
 
-pub score-requires : goal.score-requires
-score-requires g c =
-    let reads = lent_rows _ _ _ _ _ c.in_ok-rows.ensures c.as_slice.ensures.value c.as_slice-2.ensures.value in
-    record {
-      lengths = lengths_fit _ _ _ reads;
-      places = search rules;
-      sums = search rules;
-    }
+pub print_ints-requires : goal.print_ints-requires
+print_ints-requires g c =
+    let same : length c.deref.result.now ≡ length c.segments.result.lengths.now =
+    ap length (c.deref.ensures.value ∙ c.in_ok-sums.ensures.sums) ∙ length-map (cut _ _) wrapped_sum ∙ length_cut c.segments.result.elements.now c.segments.result.lengths.now in
+    omega (arith, same, c.segments.ensures.few)
 
-pub returns-in_err-report : goal.returns-in_err-report
-returns-in_err-report g c =
-    let reads = lent_rows _ _ _ _ _ c.in_ok-rows.ensures c.as_slice.ensures.value c.as_slice-2.ensures.value in
-    let p = err_from_is_err_and c.from_residual-in_err-report.result c.from_residual-in_err-report.ensures.1 in
-    rw (p.1, p.2) (no_room _ _ _ reads _ _ _ _ _ c.in_err-report.ensures.rises _ c.in_err-report.ensures.answer)
+pub returns-in_err-length : goal.returns-in_err-length
+returns-in_err-length g c =
+    let sums = rw (c.segments.ensures.elements, c.segments.ensures.lengths) at c.in_ok-sums.ensures.sums in
+    let rises = rw c.segments.ensures.elements at c.in_ok-sums.ensures.rises in
+    let p = err_from_is_err_and c.from_residual-in_err-length.result c.from_residual-in_err-length.ensures.1 in
+    rw (p.1, p.2) (no_room _ _ _ c.in_ok-rows.ensures _ (c.deref.ensures.value ∙ sums) _ _ _ rises _ _ _ c.in_err-length.ensures)
 
 pub returns : goal.returns
 returns g c =
-    let reads = lent_rows _ _ _ _ _ c.in_ok-rows.ensures c.as_slice.ensures.value c.as_slice-2.ensures.value in
-    totalled _ _ _ reads _ _ _ _ _ c.in_ok-report.ensures.rises _ c.in_ok-report.ensures.answer
+    let sums = rw (c.segments.ensures.elements, c.segments.ensures.lengths) at c.in_ok-sums.ensures.sums in
+    let rises = rw c.segments.ensures.elements at c.in_ok-sums.ensures.rises in
+    let made = rw c.segments.ensures.elements at c.in_ok-sums.ensures.made in
+    totalled _ _ _ c.in_ok-rows.ensures _ (c.deref.ensures.value ∙ sums) _ _ _ rises _ _ _ c.in_ok-length.ensures (search rules) (search rules) made

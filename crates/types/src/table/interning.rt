@@ -1,7 +1,7 @@
 // The types of the table, and their codes.
-ghost use Rattle.std.specs.Prelude.{◌≡◌, ◌<◌, ◌≤◌, [], ◌∷◌, length, IfOk, vec_capacity, Decides, MatchOption};
+ghost use Rattle.std.specs.Prelude.{◌≡◌, ◌<◌, ◌≤◌, [], ◌∷◌, length, slice_index_or, IfOk, vec_capacity, Decides, MatchOption};
 ghost use Rattle.types.specs.Types.{int, bool, pair, list};
-ghost use Rattle.types.specs.Entries.{ty_of, above, counted, first, NodeAt, Missing};
+ghost use Rattle.types.specs.Entries.{ty_of, above, counted, int_entry, first, NodeAt, Missing};
 ghost use Rattle.types.specs.Table.{types_in, type_of, Shows, Agrees, Interned};
 
 use super::super::node::{Entry, TypeNode};
@@ -13,11 +13,6 @@ const MAX_COUNT: usize = 1_000_000;
 
 const INT: Entry = Entry {
     node: TypeNode::Int,
-    count: 1,
-};
-
-const BOOL: Entry = Entry {
-    node: TypeNode::Bool,
     count: 1,
 };
 
@@ -36,7 +31,10 @@ fn begin(entries: &mut Vec<Entry>)
     ensures capacity { vec_capacity entries.new ≡ vec_capacity entries.old }
 {
     entries.push_reserved(INT);
-    entries.push_reserved(BOOL);
+    entries.push_reserved(Entry {
+        node: TypeNode::Bool,
+        ..INT
+    });
 }
 
 impl TypeTable {
@@ -82,63 +80,104 @@ impl TypeTable {
         1
     }
 
+    // The code itself if the table has it, or else that of int, for which all others stand.
+    pub fn known(&self, code: usize) -> usize
+        ensures within { result < length (types_in self.now) }
+        ensures is { type_of self.now result ≡ type_of self.now code }
+    {
+        if code < self.len() { code } else { self.int() }
+    }
+
+    // The same node, by codes that the table has.
+    fn known_node(&self, node: TypeNode) -> TypeNode
+        ensures within { above result ≤ length (types_in self.now) }
+        ensures is { ty_of (types_in self.now) result ≡ ty_of (types_in self.now) node }
+    {
+        match node {
+            TypeNode::Int | TypeNode::Bool => node,
+            TypeNode::Pair(left, right) => TypeNode::Pair(self.known(left), self.known(right)),
+            TypeNode::List(element) => TypeNode::List(self.known(element)),
+        }
+    }
+
+    fn entry(&self, code: usize) -> Entry
+        ensures { result ≡ slice_index_or self.now.entries.items code int_entry }
+    {
+        self.entries.get(code).copied().unwrap_or(INT)
+    }
+
     // What a type is made of.
     pub fn node(&self, code: usize) -> TypeNode
-        requires { code < length (types_in self.now) }
         ensures { Shows (types_in self.now) code result }
     {
-        self.entries[code].node
+        self.entry(code).node
     }
 
     // How many parts a type has, or a million if it has more.
     pub fn parts(&self, code: usize) -> usize
-        requires { code < length (types_in self.now) }
         ensures { result ≡ counted (type_of self.now code) }
     {
-        self.entries[code].count
+        self.entry(code).count
+    }
+
+    // How many parts the type that a node is has, or a million if it has more.
+    pub fn count(&self, node: TypeNode) -> usize
+        ensures { result ≡ counted (ty_of (types_in self.now) node) }
+    {
+        let parts = match node {
+            TypeNode::Int | TypeNode::Bool => 1,
+            TypeNode::Pair(left, right) => self.parts(left) + self.parts(right),
+            TypeNode::List(element) => 1 + self.parts(element),
+        };
+        parts.min(MAX_COUNT)
     }
 
     // Whether two codes name the same type.
     pub fn same(&self, a: usize, b: usize) -> bool
-        requires { (a < length (types_in self.now)) × (b < length (types_in self.now)) }
         ensures decides { Decides result (type_of self.now a ≡ type_of self.now b) }
         ensures agrees { Agrees result (type_of self.now a) (type_of self.now b) }
     {
-        a == b
+        self.known(a) == self.known(b)
+    }
+
+    // Whether a code names the type that a node is.
+    pub fn is(&self, code: usize, node: TypeNode) -> bool
+        ensures decides { Decides result (type_of self.now code ≡ ty_of (types_in self.now) node) }
+        ensures agrees { Agrees result (type_of self.now code) (ty_of (types_in self.now) node) }
+    {
+        self.node(code) == self.known_node(node)
     }
 
     // The code of the type that a node is. The type is added if it is not there.
-    fn intern(&mut self, node: TypeNode, count: usize) -> usize
-        requires room { length (types_in self.old) < 1100 }
-        requires within { above node ≤ length (types_in self.old) }
-        requires count { count ≡ counted (ty_of (types_in self.old) node) }
+    pub fn intern(&mut self, node: TypeNode) -> usize
+        requires { length (types_in self.old) < 1100 }
         ensures { Interned (types_in self.old) (ty_of (types_in self.old) node) (types_in self.new) result }
     {
-        if let Some(code) = find(self.entries.as_slice(), node) {
-            return code;
+        let node = self.known_node(node);
+        match find(self.entries.as_slice(), node) {
+            Some(code) => code,
+            None => {
+                let code = self.entries.len();
+                let count = self.count(node);
+                self.entries.push_reserved(Entry { node, count });
+                code
+            }
         }
-        let code = self.entries.len();
-        self.entries.push_reserved(Entry { node, count });
-        code
     }
 
     // The code of the type of pairs of two types.
     pub fn pair(&mut self, left: usize, right: usize) -> usize
-        requires room { length (types_in self.old) < 1100 }
-        requires within { (left < length (types_in self.old)) × (right < length (types_in self.old)) }
+        requires { length (types_in self.old) < 1100 }
         ensures { Interned (types_in self.old) (pair (type_of self.old left) (type_of self.old right)) (types_in self.new) result }
     {
-        let count = (self.parts(left) + self.parts(right)).min(MAX_COUNT);
-        self.intern(TypeNode::Pair(left, right), count)
+        self.intern(TypeNode::Pair(left, right))
     }
 
     // The code of the type of lists of an element type.
     pub fn list(&mut self, element: usize) -> usize
-        requires room { length (types_in self.old) < 1100 }
-        requires within { element < length (types_in self.old) }
+        requires { length (types_in self.old) < 1100 }
         ensures { Interned (types_in self.old) (list (type_of self.old element)) (types_in self.new) result }
     {
-        let count = (1 + self.parts(element)).min(MAX_COUNT);
-        self.intern(TypeNode::List(element), count)
+        self.intern(TypeNode::List(element))
     }
 }

@@ -14,8 +14,10 @@ impl TypeTable {
     pub fn get(&self, code: usize) -> TypeRef<'_>
         ensures { meant result ≡ type_of self.now code }
     {
-        let code = if code < self.len() { code } else { self.int() };
-        TypeRef { table: self, code }
+        TypeRef {
+            table: self,
+            code: self.known(code),
+        }
     }
 }
 

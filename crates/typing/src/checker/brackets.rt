@@ -1,56 +1,34 @@
 // Lists in brackets.
-ghost use Rattle.std.specs.Prelude.{◌≡◌, ◌<◌, ◌≤◌, length};
-ghost use Rattle.grammar.specs.declared.occurrence.What.{What};
-ghost use Rattle.judging.specs.Judging.{step, operands, counted_of};
-ghost use Rattle.typing.specs.Holding.{held, Room, Judged, Bracketed};
+ghost use Rattle.std.specs.Prelude.{◌≡◌, map};
+ghost use Rattle.lang.specs.Rules.{list_rule};
+ghost use Rattle.judging.specs.Judging.{operands};
+ghost use Rattle.typing.specs.Codes.{type_at};
+ghost use Rattle.typing.specs.Holding.{held, known, Ruled};
 
-use super::super::elements::{one_type, parts_of};
-use super::super::fault::CheckFault;
+use super::super::elements::one_type;
+use super::super::misfit::{Misfit, ensure};
 use super::{Checker, MAX_PARTS};
+use types::node::TypeNode;
 
 impl Checker {
-    // Whether the n uppermost are one or more of one type, and not too many: the code of that type.
-    fn element_type(&self, n: usize, place: usize) -> Result<usize, CheckFault>
-        ensures { Bracketed (operands n (held self.now)) place self.now result }
+    // The n uppermost, by their codes, from the lowest on.
+    pub(super) fn operands(&self, n: usize) -> &[usize]
+        ensures { map (type_at (known self.now)) result.now ≡ operands n (held self.now) }
     {
         let codes = self.stack.as_slice();
-        let base = codes.len().saturating_sub(n);
-        if base >= codes.len() {
-            return Err(CheckFault::Unfit(place));
-        }
-        let first = codes[base];
-        if !one_type(&self.types, &codes[base..], first) {
-            return Err(CheckFault::Unfit(place));
-        }
-        if codes.len() - base > MAX_PARTS {
-            return Err(CheckFault::TooLarge(place));
-        }
-        Ok(first)
+        &codes[codes.len().saturating_sub(n)..]
     }
 
-    // The parts of the n uppermost.
-    fn operand_parts(&self, n: usize) -> usize
-        requires { length (held self.now).stack < 1025 }
-        ensures is { result ≡ counted_of (operands n (held self.now)) }
-        ensures small { result ≤ 1025000000 }
+    // The type of a list of the n uppermost.
+    pub(super) fn list_type(&self, n: usize) -> Result<TypeNode, Misfit>
+        ensures { Ruled (list_rule (operands n (held self.now))) self.now result }
     {
-        let codes = self.stack.as_slice();
-        let base = codes.len().saturating_sub(n);
-        parts_of(&self.types, &codes[base..])
-    }
-
-    pub(super) fn list(&mut self, n: usize, place: usize) -> Result<(), CheckFault>
-        requires { Room (held self.old) }
-        ensures { Judged (step (What.List n) place (held self.old)) self.new result }
-    {
-        let first = self.element_type(n, place)?;
-        let sum = self.operand_parts(n);
-        let code = self.note_list(first);
-        let size = self.parts(code);
-        if size > MAX_PARTS {
-            return Err(CheckFault::TooLarge(place));
-        }
-        self.settle(n, code, 1 + sum + size);
-        Ok(())
+        let elements = self.operands(n);
+        let Some((first, rest)) = elements.split_first() else {
+            return Err(Misfit::Unfit);
+        };
+        ensure(one_type(&self.types, rest, *first), Misfit::Unfit)?;
+        ensure(elements.len() <= MAX_PARTS, Misfit::TooLarge)?;
+        self.limited(TypeNode::List(*first))
     }
 }

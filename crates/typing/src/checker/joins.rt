@@ -1,90 +1,83 @@
-// Forks of comprehensions, and joins.
-ghost use Rattle.std.specs.Prelude.{◌≡◌};
+// Forks, and joins.
+ghost use Rattle.std.specs.Prelude.{◌≡◌, MatchResult, ℕ};
 ghost use Rattle.grammar.specs.declared.occurrence.What.{What};
-ghost use Rattle.judging.specs.Judging.{step, fork};
-ghost use Rattle.typing.specs.Holding.{held, Room, Judged, filter_of};
+ghost use Rattle.lang.specs.Outcome.{ok, refused};
+ghost use Rattle.judging.specs.Judging.{fork, popped};
+ghost use Rattle.typing.specs.Faults.{misfit_at};
+ghost use Rattle.typing.specs.Holding.{held, Room, Stepped, filter_of};
 
-use super::super::fault::CheckFault;
-use super::super::parts::Fork;
+use super::super::misfit::{Misfit, ensure};
 use super::{Checker, MAX_PARTS};
 use tokens::kind::Name;
+use types::node::TypeNode;
 
 impl Checker {
-    pub(super) fn each_fork(&mut self, name: Name, place: usize) -> Result<(), CheckFault>
+    pub(super) fn if_fork(&mut self) -> Result<(), Misfit>
         requires { Room (held self.old) }
-        ensures { Judged (step (What.EachFork name) place (held self.old)) self.new result }
+        ensures { Stepped What.IfFork (held self.old) self.new result }
     {
-        let code = self.top(0);
-        let Some(element) = self.list_of(code) else {
-            return Err(CheckFault::Unfit(place));
-        };
-        let size = self.parts(code);
+        self.expect(self.top(0), TypeNode::Bool)?;
         self.mark();
-        self.cut(1);
+        self.pop();
+        self.open();
+        self.weigh(1);
+        Ok(())
+    }
+
+    pub(super) fn each_fork(&mut self, name: Name) -> Result<(), Misfit>
+        requires { Room (held self.old) }
+        ensures { Stepped (What.EachFork name) (held self.old) self.new result }
+    {
+        let list = self.top(0);
+        let element = self.element(list)?;
+        let size = self.types.parts(list);
         self.open();
         self.enter(name, element);
+        self.mark();
+        self.pop();
         self.weigh(1 + size);
         Ok(())
     }
 
-    pub(super) fn if_join(&mut self, place: usize) -> Result<(), CheckFault>
+    pub(super) fn if_join(&mut self) -> Result<(), Misfit>
         requires { Room (held self.old) }
-        ensures { Judged (step What.IfJoin place (held self.old)) self.new result }
+        ensures { Stepped What.IfJoin (held self.old) self.new result }
     {
+        let used = self.parts_used(0);
         let a = self.top(1);
         let b = self.top(0);
-        if !self.alike(b, a) {
-            return Err(CheckFault::Unfit(place));
-        }
-        let size = self.parts(a);
-        let used = self.parts_used(0);
-        self.cut(1);
+        self.expect(b, self.made_of(a))?;
+        let size = self.types.parts(a);
+        self.pop();
         self.close();
         self.mark();
         self.weigh(used + (1 + size));
         Ok(())
     }
 
-    // The filter of a comprehension, where it has one, is a bool, and goes off the stack.
-    fn filter_fits(&mut self, place: usize) -> Result<(), CheckFault>
-        requires { Room (held self.old) }
-        ensures judged { Judged (filter_of place (fork (held self.old)).filtered (held self.old)) self.new result }
-        ensures room { Room (held self.new) }
-        ensures types { self.new.types ≡ self.old.types }
+    // How many stand above what was there at the fork of a comprehension: its body, and a bool if it has a filter.
+    fn body_and_filter(&self) -> Result<usize, Misfit>
+        ensures { MatchResult result (λ k. (p : ℕ) → filter_of p (fork (held self.now)).filtered (popped 1 (held self.now)) ≡ ok (popped k (held self.now))) (λ m. (p : ℕ) → filter_of p (fork (held self.now)).filtered (popped 1 (held self.now)) ≡ refused (misfit_at p m)) }
     {
-        let Fork {
-            filtered,
-            depth: _,
-            start: _,
-        } = self.last_fork();
-        if !filtered {
-            return Ok(());
+        if self.last_fork().filtered {
+            self.expect(self.top(1), TypeNode::Bool)?;
+            Ok(2)
+        } else {
+            Ok(1)
         }
-        let code = self.top(0);
-        if !self.is_bool(code) {
-            return Err(CheckFault::Unfit(place));
-        }
-        self.cut(1);
-        Ok(())
     }
 
-    pub(super) fn each_join(&mut self, place: usize) -> Result<(), CheckFault>
+    pub(super) fn each_join(&mut self) -> Result<(), Misfit>
         requires { Room (held self.old) }
-        ensures { Judged (step What.EachJoin place (held self.old)) self.new result }
+        ensures { Stepped What.EachJoin (held self.old) self.new result }
     {
-        let body = self.top(0);
-        self.cut(1);
-        self.filter_fits(place)?;
         let used = self.parts_used(1);
-        let code = self.note_list(body);
-        let size = self.parts(code);
-        if size > MAX_PARTS {
-            return Err(CheckFault::TooLarge(place));
-        }
+        let count = self.body_and_filter()?;
+        let list = TypeNode::List(self.top(0));
+        ensure(self.types.count(list) <= MAX_PARTS, Misfit::TooLarge)?;
+        self.node(count, used, list);
         self.leave();
         self.close();
-        self.push(code);
-        self.weigh(used + (1 + size));
         Ok(())
     }
 }

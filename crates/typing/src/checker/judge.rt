@@ -1,58 +1,47 @@
 // One occurrence after another.
 ghost use Rattle.judging.specs.Judging.{step};
-ghost use Rattle.typing.specs.Holding.{held, Room, Judged};
+ghost use Rattle.typing.specs.Holding.{held, Room, Judged, Stepped};
 
 use super::super::fault::CheckFault;
+use super::super::misfit::Misfit;
 use super::Checker;
-use grammar::occurrence::{Occurrence, Unary, What};
+use super::nodes::{OverOne, OverTwo};
+use grammar::occurrence::{Occurrence, What};
+use types::node::TypeNode;
 
 impl Checker {
-    fn apply(&mut self, op: Unary, place: usize) -> Result<(), CheckFault>
+    fn judge(&mut self, what: What) -> Result<(), Misfit>
         requires { Room (held self.old) }
-        ensures { Judged (step (What.Apply op) place (held self.old)) self.new result }
-    {
-        match op {
-            Unary::Fst => self.first(place),
-            Unary::Snd => self.second(place),
-            Unary::Len => self.length(place),
-            Unary::Range => self.range(place),
-            Unary::Flat => self.flat(place),
-        }
-    }
-
-    fn judge(&mut self, what: What, place: usize) -> Result<(), CheckFault>
-        requires { Room (held self.old) }
-        ensures { Judged (step what place (held self.old)) self.new result }
+        ensures { Stepped what (held self.old) self.new result }
     {
         match what {
-            What::Variable(name) => self.variable(name, place),
-            What::IfFork => self.if_fork(place),
-            What::IfJoin => self.if_join(place),
-            What::EachFork(name) => self.each_fork(name, place),
-            What::EachJoin => self.each_join(place),
-            What::Operate(op) => self.infix(op, place),
-            What::Apply(op) => self.apply(op, place),
-            What::Index => self.index(place),
-            What::Pair => self.pair(place),
-            What::List(n) => self.list(n, place),
-            What::Empty => self.empty(place),
-            What::Part => self.part(place),
-            What::Scan(op) => self.scan(op, place),
-            What::Reduce(op) => self.reduce(op, place),
-            What::Parameter(name) => self.parameter(name, place),
-            What::Result => self.result(place),
-            What::Number(_) => Ok(self.number()),
-            What::True => Ok(self.truth()),
-            What::False => Ok(self.truth()),
+            What::Variable(name) => self.variable(name),
+            What::IfFork => self.if_fork(),
+            What::IfJoin => self.if_join(),
+            What::EachFork(name) => self.each_fork(name),
+            What::EachJoin => self.each_join(),
+            What::Operate(op) => self.over_two(OverTwo::Operate(op)),
+            What::Index => self.over_two(OverTwo::Index),
+            What::Pair => self.over_two(OverTwo::Pair),
+            What::Part => self.over_two(OverTwo::Part),
+            What::Apply(op) => self.over_one(OverOne::Apply(op)),
+            What::Scan(op) => self.over_one(OverOne::Scan(op)),
+            What::Reduce(op) => self.over_one(OverOne::Reduce(op)),
+            What::List(n) => self.list(n),
+            What::Empty => self.empty(),
+            What::Parameter(name) => self.parameter(name),
+            What::Result => self.result(),
+            What::Number(_) => Ok(self.leaf(TypeNode::Int)),
+            What::True | What::False => Ok(self.leaf(TypeNode::Bool)),
             What::Bind(name) => Ok(self.bind(name)),
             What::LetEnd => Ok(self.let_end()),
-            What::IfElse => Ok(self.if_else()),
+            What::IfElse => Ok(self.mark()),
             What::EachFilter => Ok(self.each_filter()),
             What::Group => Ok(self.group()),
-            What::TypeInt => Ok(self.type_int()),
-            What::TypeBool => Ok(self.type_bool()),
-            What::TypePair => Ok(self.type_pair()),
-            What::TypeList => Ok(self.type_list()),
+            What::TypeInt => Ok(self.put(0, TypeNode::Int)),
+            What::TypeBool => Ok(self.put(0, TypeNode::Bool)),
+            What::TypePair => Ok(self.put(2, TypeNode::Pair(self.top(1), self.top(0)))),
+            What::TypeList => Ok(self.put(1, TypeNode::List(self.top(0)))),
         }
     }
 
@@ -61,6 +50,6 @@ impl Checker {
         requires { Room (held self.old) }
         ensures { Judged (step o.what o.place (held self.old)) self.new result }
     {
-        self.judge(o.what, o.place)
+        self.judge(o.what).map_err(|misfit| misfit.at(o.place))
     }
 }

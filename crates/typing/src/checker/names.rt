@@ -1,24 +1,21 @@
 // Names that are bound and used.
 ghost use Rattle.std.specs.Prelude.{◌≡◌};
 ghost use Rattle.grammar.specs.declared.occurrence.What.{What};
-ghost use Rattle.lang.specs.Outcome.{ok, refused};
+ghost use Rattle.lang.specs.Outcome.{ok};
 ghost use Rattle.judging.specs.Judging.{step, header as header_of};
-ghost use Rattle.typing.specs.Holding.{held, Room, Judged};
+ghost use Rattle.typing.specs.Holding.{held, Room, Placed, Stepped};
 
-use super::super::fault::CheckFault;
+use super::super::misfit::{Misfit, ensure};
 use super::{Checker, MAX_PARTS};
 use tokens::kind::Name;
 
 impl Checker {
-    pub(super) fn variable(&mut self, name: Name, place: usize) -> Result<(), CheckFault>
+    pub(super) fn variable(&mut self, name: Name) -> Result<(), Misfit>
         requires { Room (held self.old) }
-        ensures { Judged (step (What.Variable name) place (held self.old)) self.new result }
+        ensures { Stepped (What.Variable name) (held self.old) self.new result }
     {
-        let Some(note) = self.find(name) else {
-            return Err(CheckFault::UnknownName(place));
-        };
+        let note = self.find(name).ok_or(Misfit::UnknownName)?;
         self.note_use(note);
-        self.push(note.code);
         self.weigh(1);
         Ok(())
     }
@@ -27,38 +24,32 @@ impl Checker {
         requires { Room (held self.old) }
         ensures { step (What.Bind name) 0 (held self.old) ≡ ok (held self.new) }
     {
-        let code = self.top(0);
+        self.enter(name, self.top(0));
         self.mark();
-        self.enter(name, code);
-        self.cut(1);
+        self.pop();
     }
 
     // Whether the type that is written in the header is small enough.
-    fn header(&self, place: usize) -> Result<(), CheckFault>
-        ensures { Judged (header_of place (held self.now)) self.now result }
+    fn header(&self) -> Result<(), Misfit>
+        ensures { Placed (λ p. header_of p (held self.now)) self.now result }
     {
-        let code = self.top(0);
-        if self.parts(code) > MAX_PARTS {
-            Err(CheckFault::TooLarge(place))
-        } else {
-            Ok(())
-        }
+        ensure(self.types.parts(self.top(0)) <= MAX_PARTS, Misfit::TooLarge)
     }
 
-    pub(super) fn parameter(&mut self, name: Name, place: usize) -> Result<(), CheckFault>
+    pub(super) fn parameter(&mut self, name: Name) -> Result<(), Misfit>
         requires { Room (held self.old) }
-        ensures { Judged (step (What.Parameter name) place (held self.old)) self.new result }
+        ensures { Stepped (What.Parameter name) (held self.old) self.new result }
     {
-        self.header(place)?;
+        self.header()?;
         self.bind(name);
         Ok(())
     }
 
-    pub(super) fn result(&mut self, place: usize) -> Result<(), CheckFault>
+    pub(super) fn result(&mut self) -> Result<(), Misfit>
         requires { Room (held self.old) }
-        ensures { Judged (step What.Result place (held self.old)) self.new result }
+        ensures { Stepped What.Result (held self.old) self.new result }
     {
-        self.header(place)?;
+        self.header()?;
         self.mark();
         Ok(())
     }

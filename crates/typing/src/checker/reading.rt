@@ -42,11 +42,8 @@ impl Checker {
         ensures within { result < length (known self.now) }
         ensures is { type_in self.now result ≡ slice_index_or (kinds (held self.now).scope) 0 int }
     {
-        let n = self.scope.len();
-        if n > 0 {
-            self.scope[n - 1].code
-        } else {
-            self.types.int()
-        }
+        self.scope
+            .last()
+            .map_or(self.types.int(), |binding| binding.code)
     }
 }

@@ -1,243 +1,169 @@
-// What the rules ask of types.
-ghost use Rattle.std.specs.Prelude.{◌≡◌, ◌<◌, ◌≤◌, length, MatchOption};
-ghost use Rattle.types.specs.Types.{int, bool, pair, list};
-ghost use Rattle.types.specs.Entries.{counted};
-ghost use Rattle.grammar.specs.declared.occurrence.Unary.TheVariants.{Fst, Snd, Len, Flat};
-ghost use Rattle.lang.specs.Expr.{answers, joined};
-ghost use Rattle.lang.specs.Rules.{infix_rule, index_rule, unary_rule};
-ghost use Rattle.judging.specs.Judging.{decide, top as top_of};
-ghost use Rattle.typing.specs.Holding.{held, known, type_in, Ruled, Is, Bools, NotList, NotPair, Folds, Parts};
+// What the rules ask of types, and the types that they give.
+#![tactic(auto, using(crate::proofs::Rules::unfits))]
 
-use super::super::fault::CheckFault;
-use super::Checker;
-use grammar::occurrence::{Infix, Operation};
+ghost use Rattle.std.specs.Prelude.{◌≡◌, cond, nat_le, List, Result, MatchResult};
+ghost use Rattle.std.specs.declared.result.Result.TheVariants.{Ok, Err};
+ghost use Rattle.std.proofs.Math.Option.{none};
+ghost use Rattle.types.specs.Types.{Ty, list, pair, parts, same, NotList, NotPair};
+ghost use Rattle.types.specs.Entries.{ty_of};
+ghost use Rattle.lang.specs.Expr.{answers, joined};
+ghost use Rattle.lang.specs.Rules.{infix_rule, index_rule, part_rule, unary_rule, limit};
+ghost use Rattle.typing.specs.Nodes.{one_rule, two_rule};
+ghost use Rattle.typing.specs.Holding.{known, type_in, Ruled};
+ghost use Rattle.typing.specs.declared.misfit.Misfit.TheVariants.{Unfit, TooLarge};
+
+use super::super::misfit::{Misfit, ensure};
+use super::nodes::{OverOne, OverTwo};
+use super::{Checker, MAX_PARTS};
+use grammar::occurrence::{Infix, Operation, Unary};
 use types::node::TypeNode;
 
+// The type that an infix sign answers.
+fn answer(op: Infix) -> TypeNode
+    ensures { (ts : List Ty) → ty_of ts result ≡ answers op }
+{
+    match op {
+        Infix::Add | Infix::Subtract | Infix::Multiply | Infix::Divide | Infix::Remainder => {
+            TypeNode::Int
+        }
+        Infix::Same | Infix::Less => TypeNode::Bool,
+    }
+}
+
 impl Checker {
-    pub(super) fn parts(&self, code: usize) -> usize
-        requires { code < length (known self.now) }
-        ensures is { result ≡ counted (type_in self.now code) }
-        ensures small { result ≤ 1000000 }
+    // Whether it is the type that is wanted.
+    pub(super) fn expect(&self, code: usize, wanted: TypeNode) -> Result<(), Misfit>
+        ensures { MatchResult result (λ _. type_in self.now code ≡ ty_of (known self.now) wanted) (λ m. (same (type_in self.now code) (ty_of (known self.now) wanted) ≡ none) × (m ≡ Unfit)) }
     {
-        self.types.parts(code)
+        ensure(self.types.is(code, wanted), Misfit::Unfit)
     }
 
-    pub(super) fn is_int(&self, code: usize) -> bool
-        requires { code < length (known self.now) }
-        ensures { Is result (type_in self.now code) int }
-    {
-        let wanted = self.types.int();
-        self.types.same(code, wanted)
-    }
-
-    pub(super) fn is_bool(&self, code: usize) -> bool
-        requires { code < length (known self.now) }
-        ensures { Is result (type_in self.now code) bool }
-    {
-        let wanted = self.types.bool();
-        self.types.same(code, wanted)
-    }
-
-    pub(super) fn alike(&self, a: usize, b: usize) -> bool
-        requires { (a < length (known self.now)) × (b < length (known self.now)) }
-        ensures { Is result (type_in self.now a) (type_in self.now b) }
-    {
-        self.types.same(a, b)
-    }
-
-    // Whether a bool stands uppermost.
-    pub(super) fn expect_bool(&self, place: usize) -> Result<(), CheckFault>
-        ensures { Bools (top_of (held self.now)) place result }
-    {
-        let code = self.top(0);
-        if self.is_bool(code) {
-            Ok(())
-        } else {
-            Err(CheckFault::Unfit(place))
-        }
-    }
-
-    // The type that an infix sign answers.
-    fn answer(&self, op: Infix) -> usize
-        ensures within { result < length (known self.now) }
-        ensures is { type_in self.now result ≡ answers op }
-    {
-        match op {
-            Infix::Add => self.types.int(),
-            Infix::Subtract => self.types.int(),
-            Infix::Multiply => self.types.int(),
-            Infix::Divide => self.types.int(),
-            Infix::Remainder => self.types.int(),
-            Infix::Same => self.types.bool(),
-            Infix::Less => self.types.bool(),
-        }
-    }
-
-    pub(super) fn infix_type(
-        &self,
-        op: Infix,
-        a: usize,
-        b: usize,
-        place: usize,
-    ) -> Result<usize, CheckFault>
-        requires { (a < length (known self.now)) × (b < length (known self.now)) }
-        ensures { Ruled (decide place (infix_rule op (type_in self.now a) (type_in self.now b))) self.now result }
-    {
-        if !self.is_int(a) {
-            return Err(CheckFault::Unfit(place));
-        }
-        if !self.is_int(b) {
-            return Err(CheckFault::Unfit(place));
-        }
-        Ok(self.answer(op))
-    }
-
-    // The elements' type, if it is a list.
-    pub(super) fn list_of(&self, code: usize) -> Option<usize>
-        requires { code < length (known self.now) }
-        ensures { MatchOption result (NotList (type_in self.now code)) (λ e. (e < length (known self.now)) × (type_in self.now code ≡ list (type_in self.now e))) }
+    // The elements' type of a list.
+    pub(super) fn element(&self, code: usize) -> Result<usize, Misfit>
+        ensures { MatchResult result (λ e. type_in self.now code ≡ list (type_in self.now e)) (λ m. NotList (type_in self.now code) × (m ≡ Unfit)) }
     {
         match self.types.node(code) {
-            TypeNode::Int => None,
-            TypeNode::Bool => None,
-            TypeNode::Pair(_, _) => None,
-            TypeNode::List(element) => Some(element),
+            TypeNode::List(element) => Ok(element),
+            _ => Err(Misfit::Unfit),
         }
     }
 
-    // The halves, if it is a pair.
-    pub(super) fn pair_of(&self, code: usize) -> Option<(usize, usize)>
-        requires { code < length (known self.now) }
-        ensures { MatchOption result (NotPair (type_in self.now code)) (λ h. (h.0 < length (known self.now)) × (h.1 < length (known self.now)) × (type_in self.now code ≡ pair (type_in self.now h.0) (type_in self.now h.1))) }
+    // The halves of a pair.
+    fn halves(&self, code: usize) -> Result<(usize, usize), Misfit>
+        ensures { MatchResult result (λ h. type_in self.now code ≡ pair (type_in self.now h.0) (type_in self.now h.1)) (λ m. NotPair (type_in self.now code) × (m ≡ Unfit)) }
     {
         match self.types.node(code) {
-            TypeNode::Int => None,
-            TypeNode::Bool => None,
-            TypeNode::Pair(left, right) => Some((left, right)),
-            TypeNode::List(_) => None,
+            TypeNode::Pair(left, right) => Ok((left, right)),
+            _ => Err(Misfit::Unfit),
         }
     }
 
-    pub(super) fn index_type(&self, a: usize, b: usize, place: usize) -> Result<usize, CheckFault>
-        requires { (a < length (known self.now)) × (b < length (known self.now)) }
-        ensures { Ruled (decide place (index_rule (type_in self.now a) (type_in self.now b))) self.now result }
+    // What a type is made of.
+    pub(super) fn made_of(&self, code: usize) -> TypeNode
+        ensures { ty_of (known self.now) result ≡ type_in self.now code }
     {
-        let Some(element) = self.list_of(a) else {
-            return Err(CheckFault::Unfit(place));
-        };
-        if self.is_int(b) {
-            Ok(element)
-        } else {
-            Err(CheckFault::Unfit(place))
-        }
+        self.types.node(code)
     }
 
-    pub(super) fn first_type(&self, a: usize, place: usize) -> Result<usize, CheckFault>
-        requires { a < length (known self.now) }
-        ensures { Ruled (decide place (unary_rule Fst (type_in self.now a))) self.now result }
+    // Whether a type that is made is small enough.
+    pub(super) fn limited(&self, node: TypeNode) -> Result<TypeNode, Misfit>
+        ensures { result ≡ cond (nat_le (parts (ty_of (known self.now) node)) limit) (Ok node) (Err TooLarge) }
     {
-        match self.pair_of(a) {
-            Some((left, _)) => Ok(left),
-            None => Err(CheckFault::Unfit(place)),
-        }
+        ensure(self.types.count(node) <= MAX_PARTS, Misfit::TooLarge)?;
+        Ok(node)
     }
 
-    pub(super) fn second_type(&self, a: usize, place: usize) -> Result<usize, CheckFault>
-        requires { a < length (known self.now) }
-        ensures { Ruled (decide place (unary_rule Snd (type_in self.now a))) self.now result }
+    fn infix_type(&self, op: Infix, a: usize, b: usize) -> Result<TypeNode, Misfit>
+        ensures { Ruled (infix_rule op (type_in self.now a) (type_in self.now b)) self.now result }
     {
-        match self.pair_of(a) {
-            Some((_, right)) => Ok(right),
-            None => Err(CheckFault::Unfit(place)),
-        }
+        self.expect(a, TypeNode::Int)?;
+        self.expect(b, TypeNode::Int)?;
+        Ok(answer(op))
     }
 
-    pub(super) fn length_type(&self, a: usize, place: usize) -> Result<usize, CheckFault>
-        requires { a < length (known self.now) }
-        ensures { Ruled (decide place (unary_rule Len (type_in self.now a))) self.now result }
+    fn index_type(&self, a: usize, b: usize) -> Result<TypeNode, Misfit>
+        ensures { Ruled (index_rule (type_in self.now a) (type_in self.now b)) self.now result }
     {
-        match self.list_of(a) {
-            Some(_) => Ok(self.types.int()),
-            None => Err(CheckFault::Unfit(place)),
-        }
+        let element = self.element(a)?;
+        self.expect(b, TypeNode::Int)?;
+        Ok(self.made_of(element))
     }
 
-    pub(super) fn flat_type(&self, a: usize, place: usize) -> Result<usize, CheckFault>
-        requires { a < length (known self.now) }
-        ensures { Ruled (decide place (unary_rule Flat (type_in self.now a))) self.now result }
+    // A list, and the lengths that it is cut into.
+    fn part_type(&self, a: usize, b: usize) -> Result<TypeNode, Misfit>
+        ensures { Ruled (part_rule (type_in self.now a) (type_in self.now b)) self.now result }
     {
-        let Some(inner) = self.list_of(a) else {
-            return Err(CheckFault::Unfit(place));
-        };
-        let Some(_element) = self.list_of(inner) else {
-            return Err(CheckFault::Unfit(place));
-        };
-        Ok(inner)
+        self.element(a)?;
+        self.expect(b, TypeNode::List(self.types.int()))?;
+        self.limited(TypeNode::List(a))
     }
 
-    // Whether it is the type that the operation joins.
-    fn is_joined(&self, op: Operation, code: usize) -> bool
-        requires { code < length (known self.now) }
-        ensures { Is result (type_in self.now code) (joined op) }
+    fn unary_type(&self, op: Unary, a: usize) -> Result<TypeNode, Misfit>
+        ensures { Ruled (unary_rule op (type_in self.now a)) self.now result }
     {
         match op {
-            Operation::Sum => self.is_int(code),
-            Operation::Max => self.is_int(code),
-            Operation::Or => self.is_bool(code),
-            Operation::Lin => self.is_ints(code),
-            Operation::House => self.is_int(code),
+            Unary::Fst => {
+                let (left, _) = self.halves(a)?;
+                Ok(self.made_of(left))
+            }
+            Unary::Snd => {
+                let (_, right) = self.halves(a)?;
+                Ok(self.made_of(right))
+            }
+            Unary::Len => {
+                self.element(a)?;
+                Ok(TypeNode::Int)
+            }
+            Unary::Range => {
+                self.expect(a, TypeNode::Int)?;
+                Ok(TypeNode::List(a))
+            }
+            Unary::Flat => {
+                let inner = self.element(a)?;
+                self.element(inner)?;
+                Ok(self.made_of(inner))
+            }
         }
     }
 
-    // Whether it is a pair of ints.
-    fn is_ints(&self, code: usize) -> bool
-        requires { code < length (known self.now) }
-        ensures { Is result (type_in self.now code) (pair int int) }
+    // The type that an operation joins.
+    fn joined(&self, op: Operation) -> TypeNode
+        ensures { ty_of (known self.now) result ≡ joined op }
     {
-        let Some((left, right)) = self.pair_of(code) else {
-            return false;
-        };
-        if !self.is_int(left) {
-            return false;
-        }
-        self.is_int(right)
-    }
-
-    // The elements' type of a list that the operation folds.
-    pub(super) fn fold_type(
-        &self,
-        op: Operation,
-        a: usize,
-        place: usize,
-    ) -> Result<usize, CheckFault>
-        requires { a < length (known self.now) }
-        ensures { Folds (type_in self.now a) (joined op) place self.now result }
-    {
-        let Some(element) = self.list_of(a) else {
-            return Err(CheckFault::Unfit(place));
-        };
-        if self.is_joined(op, element) {
-            Ok(element)
-        } else {
-            Err(CheckFault::Unfit(place))
+        match op {
+            Operation::Sum | Operation::Max | Operation::House => TypeNode::Int,
+            Operation::Or => TypeNode::Bool,
+            Operation::Lin => TypeNode::Pair(self.types.int(), self.types.int()),
         }
     }
 
-    // Whether a list can be cut into parts of these lengths.
-    pub(super) fn part_fits(&self, a: usize, b: usize, place: usize) -> Result<(), CheckFault>
-        requires { (a < length (known self.now)) × (b < length (known self.now)) }
-        ensures { Parts (type_in self.now a) (type_in self.now b) place result }
+    // The elements' type of a list that an operation folds.
+    fn folded(&self, op: Operation, a: usize) -> Result<usize, Misfit>
+        ensures { MatchResult result (λ e. (type_in self.now a ≡ list (joined op)) × (type_in self.now e ≡ joined op)) (λ m. (same (type_in self.now a) (list (joined op)) ≡ none) × (m ≡ Unfit)) }
     {
-        let Some(_element) = self.list_of(a) else {
-            return Err(CheckFault::Unfit(place));
-        };
-        let Some(count) = self.list_of(b) else {
-            return Err(CheckFault::Unfit(place));
-        };
-        if self.is_int(count) {
-            Ok(())
-        } else {
-            Err(CheckFault::Unfit(place))
+        let element = self.element(a)?;
+        self.expect(element, self.joined(op))?;
+        Ok(element)
+    }
+
+    pub(super) fn one_type(&self, op: OverOne, a: usize) -> Result<TypeNode, Misfit>
+        ensures { Ruled (one_rule op (type_in self.now a)) self.now result }
+    {
+        match op {
+            OverOne::Apply(op) => self.unary_type(op, a),
+            OverOne::Scan(op) => Ok(TypeNode::List(self.folded(op, a)?)),
+            OverOne::Reduce(op) => Ok(self.made_of(self.folded(op, a)?)),
+        }
+    }
+
+    pub(super) fn two_type(&self, op: OverTwo, a: usize, b: usize) -> Result<TypeNode, Misfit>
+        ensures { Ruled (two_rule op (type_in self.now a) (type_in self.now b)) self.now result }
+    {
+        match op {
+            OverTwo::Operate(op) => self.infix_type(op, a, b),
+            OverTwo::Index => self.index_type(a, b),
+            OverTwo::Pair => self.limited(TypeNode::Pair(a, b)),
+            OverTwo::Part => self.part_type(a, b),
         }
     }
 }

@@ -1,11 +1,13 @@
 // The stack of types.
-ghost use Rattle.std.specs.Prelude.{◌≡◌, ◌+◌, ◌^◌, ◌<◌, ◌≤◌, [], ◌∷◌, length};
+ghost use Rattle.std.specs.Prelude.{◌≡◌, ◌+◌, ◌^◌, ◌<◌, ◌≤◌, length};
+ghost use Rattle.types.specs.Entries.{ty_of};
 ghost use Rattle.judging.specs.Notes.{note as note_on};
-ghost use Rattle.judging.specs.Judging.{top as top_of, pushed, popped, noted, weighing};
-ghost use Rattle.typing.specs.Holding.{held, known, type_in, Room};
+ghost use Rattle.judging.specs.Judging.{top as top_of, mark as mark_of, pushed, popped, noted, weighing};
+ghost use Rattle.typing.specs.Holding.{held, known, type_in, over, Room};
 
 use super::super::parts::Note;
 use super::Checker;
+use types::node::TypeNode;
 
 impl Checker {
     // The code that stands k below the top, or that of int.
@@ -13,68 +15,56 @@ impl Checker {
         ensures within { result < length (known self.now) }
         ensures is { type_in self.now result ≡ top_of (popped k (held self.now)) }
     {
-        let n = self.stack.len();
-        if k < n {
-            self.stack[n - 1 - k]
-        } else {
-            self.types.int()
-        }
+        self.stack
+            .iter()
+            .rev()
+            .nth(k)
+            .copied()
+            .unwrap_or(self.types.int())
     }
 
-    pub(super) fn push(&mut self, code: usize)
-        requires room { length (held self.old).stack < 1025 }
-        requires within { code < length (known self.old) }
-        ensures holds { held self.new ≡ pushed (type_in self.old code) (held self.old) }
-        ensures types { self.new.types ≡ self.old.types }
+    // The uppermost goes.
+    pub(super) fn pop(&mut self)
+        ensures { held self.new ≡ popped 1 (held self.old) }
     {
+        let _ = self.stack.pop();
+    }
+
+    // Notes what stands uppermost.
+    pub(super) fn mark(&mut self)
+        requires { length (held self.old).notes < 1025 }
+        ensures { held self.new ≡ mark_of (held self.old) }
+    {
+        let code = self.top(0);
+        self.notes.push_reserved(Note { code, index: 0 });
+    }
+
+    // The type that a node is takes the place of the k uppermost, and is noted.
+    pub(super) fn put(&mut self, k: usize, node: TypeNode)
+        requires { Room (held self.old) }
+        ensures { held self.new ≡ noted (note_on (ty_of (known self.old) node)) (pushed (ty_of (known self.old) node) (popped k (held self.old))) }
+    {
+        let below = self.stack.len().saturating_sub(k);
+        let code = self.types.intern(node);
+        self.notes.push_reserved(Note { code, index: 0 });
+        self.stack.truncate(below);
         self.stack.push_reserved(code);
     }
 
-    // Takes k off the top, or all.
-    pub(super) fn cut(&mut self, k: usize)
-        ensures holds { held self.new ≡ popped k (held self.old) }
-        ensures types { self.new.types ≡ self.old.types }
-    {
-        let n = self.stack.len();
-        self.stack.truncate(n.saturating_sub(k));
-    }
-
-    pub(super) fn note(&mut self, code: usize, index: usize)
-        requires room { length (held self.old).notes < 1025 }
-        requires within { code < length (known self.old) }
-        ensures holds { held self.new ≡ noted (record { type = type_in self.old code; index = index } ∷ []) (held self.old) }
-        ensures types { self.new.types ≡ self.old.types }
-    {
-        self.notes.push_reserved(Note { code, index });
-    }
-
     pub(super) fn weigh(&mut self, n: usize)
-        requires { ((held self.old).weight ≤ 2 ^ 61) × (n ≤ 2 ^ 40) }
-        ensures holds { held self.new ≡ weighing n (held self.old) }
-        ensures types { self.new.types ≡ self.old.types }
+        requires { (held self.old).weight + n < 2 ^ 64 }
+        ensures { held self.new ≡ weighing n (held self.old) }
     {
         self.weight += n;
     }
 
-    // Takes k off the top, pushes the type and adds n to the weight.
-    pub(super) fn settle(&mut self, k: usize, code: usize, n: usize)
-        requires room { (length (held self.old).stack < 1025) × (((held self.old).weight ≤ 2 ^ 61) × (n ≤ 2 ^ 40)) }
-        requires within { code < length (known self.old) }
-        ensures holds { held self.new ≡ weighing n (pushed (type_in self.old code) (popped k (held self.old))) }
-        ensures types { self.new.types ≡ self.old.types }
+    // A node over the k uppermost, which have so many parts.
+    pub(super) fn node(&mut self, k: usize, parts: usize, node: TypeNode)
+        requires { Room (held self.old) × (parts ≤ 2 ^ 40) }
+        ensures { held self.new ≡ over k parts (ty_of (known self.old) node) (held self.old) }
     {
-        self.cut(k);
-        self.push(code);
-        self.weigh(n);
-    }
-
-    // A node over k operands: its type is noted too.
-    pub(super) fn node(&mut self, k: usize, code: usize, n: usize)
-        requires room { (Room (held self.old)) × (n ≤ 2 ^ 40) }
-        requires within { code < length (known self.old) }
-        ensures holds { held self.new ≡ noted (note_on (type_in self.old code)) (weighing n (pushed (type_in self.old code) (popped k (held self.old)))) }
-    {
-        self.note(code, 0);
-        self.settle(k, code, n);
+        let size = self.types.count(node);
+        self.put(k, node);
+        self.weigh(1 + parts + size);
     }
 }

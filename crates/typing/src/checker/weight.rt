@@ -2,7 +2,7 @@
 ghost use Rattle.std.specs.Prelude.{◌≡◌, ◌*◌, ◌<◌, ◌≤◌, map, reverse, length, drop};
 ghost use Rattle.types.specs.Table.{types_in};
 ghost use Rattle.judging.specs.Judging.{parts_used, fork};
-ghost use Rattle.typing.specs.Codes.{Under, scope_codes, binding_of};
+ghost use Rattle.typing.specs.Codes.{binding_of};
 ghost use Rattle.typing.specs.Holding.{held};
 
 use super::super::flags::{fill, replay};
@@ -12,38 +12,28 @@ use types::table::TypeTable;
 
 // The parts of the variables that were used, but for the innermost ones that are to be skipped.
 fn parts_flagged(types: &TypeTable, scope: &[Binding], skip: usize, flags: &[bool]) -> usize
-    requires within { Under (length (types_in types.now)) (scope_codes scope.now) }
-    requires few { (length flags.now < 1025) × (skip ≤ 1) }
+    requires { length flags.now < 1025 }
     ensures is { result ≡ parts_used (drop skip (map (binding_of (types_in types.now)) (reverse scope.now))) flags.now }
     ensures small { result ≤ 1000000 * length flags.now }
 {
-    let n = scope.len();
-    let mut sum = 0;
-    for (i, used) in flags.iter().enumerate() {
-        if skip + i >= n {
-            return sum;
-        }
-        if *used {
-            sum += types.parts(scope[n - 1 - (skip + i)].code);
-        }
-    }
-    sum
+    scope
+        .iter()
+        .rev()
+        .skip(skip)
+        .zip(flags)
+        .filter(|(_, used)| **used)
+        .map(|(binding, _)| types.parts(binding.code))
+        .sum()
 }
 
 impl Checker {
     // The parts of the variables that were used since the innermost fork.
     pub(super) fn parts_used(&mut self, skip: usize) -> usize
-        requires { skip ≤ 1 }
         ensures is { result ≡ parts_used (drop skip (held self.old).scope) (fork (held self.old)).used }
         ensures small { result ≤ 1025000000 }
         ensures holds { held self.new ≡ held self.old }
-        ensures types { self.new.types ≡ self.old.types }
     {
-        let Fork {
-            filtered: _,
-            depth,
-            start,
-        } = self.last_fork();
+        let Fork { depth, start, .. } = self.last_fork();
         fill(&mut self.flags, depth);
         replay(&mut self.flags, &self.uses.as_slice()[start..]);
         parts_flagged(

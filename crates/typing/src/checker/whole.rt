@@ -37,9 +37,7 @@ impl Checker {
     fn finish(&self) -> Result<(), CheckFault>
         ensures { Judged (finished (held self.now)) self.now result }
     {
-        let body = self.top(0);
-        let declared = self.top(1);
-        if !self.alike(body, declared) {
+        if !self.types.same(self.top(0), self.top(1)) {
             return Err(CheckFault::WrongResult);
         }
         if self.weight > MAX_WEIGHT {

@@ -1,5 +1,4 @@
 use Rattle.grammar.specs.Grammar.{same, less}
-use Rattle.reader.proofs.Ranks.{no_comparison}
 use Rattle.reader.proofs.operators.comparison.Goals as goal
 
 pub returns-in-Same : goal.returns-in-Same
@@ -7,6 +6,3 @@ returns-in-Same c = (same, c.in-Same.is)
 
 pub returns-in-Less : goal.returns-in-Less
 returns-in-Less c = (less, c.in-Less.is)
-
-pub returns-in_default : goal.returns-in_default
-returns-in_default c = no_comparison c.in_default.not-Same c.in_default.not-Less

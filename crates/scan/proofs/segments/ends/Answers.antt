@@ -1,22 +1,22 @@
-use Rattle.std.proofs.Common.{◌+◌, ◌<◌, cond, eqb, ◌≢◌, length, get_or, ap, ◌∙◌, arith, get_or-set_other, get_or-set_same, below_more}
-use Rattle.std.proofs.lemmas.List.Sums.{sum_by_more}
-use Rattle.monoid.proofs.Segments.{upto}
+use Rattle.std.proofs.Common.{◌<◌, [], ◌∷◌, ◌++◌, ◌∙◌, ap, refl, arith, length, take}
+use Rattle.std.proofs.lemmas.List.{take_more_set}
+use Rattle.monoid.specs.Laws.{product}
+use Rattle.monoid.specs.Segments.{reduced}
+use Rattle.monoid.proofs.Segments.{reached_more, part_more}
+use Rattle.scan.proofs.Reading.{end_is}
 use Rattle.scan.proofs.segments.ends.Goals as goal
-
-pub overflow_add-at : goal.overflow_add-at
-overflow_add-at g c = omega (arith, upto c.args.lengths.now c.loop-j.j c.loop-j-test.true, c.loop-j.invariant.0)
 
 pub loop-j-preserved : goal.loop-j-preserved
 loop-j-preserved g c =
-    let unit = g.M.Monoid.unit in
-    let d = c.args.lengths.now in
+    let m = g.M.Monoid in
+    let v = c.args.segments.now.elements.now in
+    let d = c.args.segments.now.lengths.now in
     let j = c.loop-j.j in
     let out = c.loop-j.out in
-    let inv = c.loop-j.invariant in
-    let lt : j < length out = omega arith in
-    let n = get_or d j 0 in (
-      omega (arith, sum_by_more (λ x. x) d j 0 c.loop-j-test.true, inv.0),
-      below_more _ _
-          (λ k l. let ne : k ≢ j = omega arith in get_or-set_other out j k _ unit ne ∙ inv.1 k l)
-          (get_or-set_same out j _ unit lt ∙ c.product_of.ensures ∙ ap (λ i. cond (eqb n 0) unit (get_or c.args.places.now (i + n) c.args.all).1) inv.0),
+    let so_far = c.loop-j.invariant.0 in
+    let lt : j < length out = omega arith in (
+      reached_more v d j _ so_far c.loop-j-test.true,
+      part_more v d j _ so_far c.loop-j-test.true (reduced m.unit m.op) (λ xs. product m.unit m.op xs ∷ []) (λ xs xss. refl) _ (take j out) _
+          (take_more_set out j c.product_of.result lt ∙ ap (λ x. take j out ++ (x ∷ []))
+          (c.product_of.ensures ∙ end_is g.met.M.Monoid.laws v d j _ so_far c.loop-j-test.true _ c.requires.places c.args.all c.requires.all)) c.loop-j.invariant.1,
     )

@@ -1,9 +1,10 @@
-use Rattle.std.proofs.Common.{◌≡◌, ◌++◌, map, take, drop, sum}
-use Rattle.monoid.specs.Segments.{plain, places, cut}
+use Rattle.std.proofs.Common.{◌≡◌, ◌++◌, take, drop}
+use Rattle.monoid.specs.Segments.{cut, places}
+use Rattle.monoid.proofs.Segments.{Reached}
 use Rattle.scan.proofs.segments.mark.Given as goal
 
-abbrev pub invariant-loop-i : goal.invariant-loop-i
-invariant-loop-i g l = take l.i l.places ≡ map plain (take l.i l.v)
-
-abbrev pub invariant-loop-j : goal.invariant-loop-j
-invariant-loop-j g l = (l.at ≡ sum (take l.j l.lengths)) × (l.places ≡ places (cut l.v (take l.j l.lengths)) ++ map plain (drop l.at l.v))
+abbrev pub invariant-loop-n : goal.invariant-loop-n
+invariant-loop-n g l =
+    let v = l.segments.elements.now in
+    let d = l.segments.lengths.now in
+    Reached v d l.n-index l.at × (take l.at l.places ++ places (cut (drop l.at v) (drop l.n-index d)) ≡ places (cut v d))

@@ -1,20 +1,19 @@
-use Rattle.std.proofs.Common.{◌<◌, ◌≤◌, length, arith}
-use Rattle.types.specs.Table.{type_of}
+use Rattle.std.proofs.Common.{refl, rules}
+use Rattle.texts.specs.Outcome.{Unread}
+use Rattle.texts.proofs.Phrases.{hands_on}
 use Rattle.texts.proofs.Outcome.{whole_stops, more_follows, too_large, whole_value}
 use Rattle.texts.proofs.read.read_value.Goals as goal
 
-pub returns-in-Err : goal.returns-in-Err
-returns-in-Err c = whole_stops (type_of c.args.types.now c.args.code) c.args.text.now _ c.in-Err.ensures
+pub returns-in_err-value : goal.returns-in_err-value
+returns-in_err-value c = hands_on _ _ (Unread _ _ _) _ c.from_residual.ensures.1 (whole_stops _ _ _ refl c.in_err-value.ensures)
 
-pub returns-then-end-text : goal.returns-then-end-text
-returns-then-end-text c = more_follows (type_of c.args.types.now c.args.code) c.args.text.now _ _ _ c.in-Ok.ensures c.if-end-text.true
+pub returns-then-reader-text : goal.returns-then-reader-text
+returns-then-reader-text c = more_follows _ _ _ c.in_ok-value.ensures refl refl c.if-reader-text.true
 
-pub returns-then-end-cells : goal.returns-then-end-cells
-returns-then-end-cells c =
-    let over : length c.args.cells.now < c.in-Ok.end.used = omega (arith, c.phrase.auto.cells, c.if-end-cells.true) in
-    too_large (type_of c.args.types.now c.args.code) c.args.text.now _ _ _ c.in-Ok.ensures c.if-end-text.false _ over
+pub returns-then-reader : goal.returns-then-reader
+returns-then-reader c = too_large _ _ _ c.in_ok-value.ensures refl refl c.if-reader-text.false c.if-reader.true
 
 pub returns : goal.returns
 returns c =
-    let fits : c.in-Ok.end.used ≤ length c.args.cells.now = omega (arith, c.phrase.auto.cells, c.if-end-cells.false) in
-    whole_value (type_of c.args.types.now c.args.code) c.args.text.now _ _ _ c.in-Ok.ensures c.if-end-text.false fits
+    let kept = c.in_ok-value.ensures.moved.same_reference in
+    whole_value _ _ _ c.in_ok-value.ensures refl refl c.if-reader-text.false c.if-reader.false _ (search rules)

@@ -3,7 +3,7 @@ use Rattle.values.specs.Magnitudes.{Spells}
 use Rattle.values.proofs.int_text.read_magnitude.Given as goal
 
 abbrev pub invariant-loop-value : goal.invariant-loop-value
-invariant-loop-value l = Spells l.limit l.text l.m.value l.m.length
+invariant-loop-value l = Spells l.limit l.text l.number.value l.number.length
 
 abbrev pub decreases-loop-value : goal.decreases-loop-value
-decreases-loop-value l = length l.text - l.m.length
+decreases-loop-value l = length l.text - l.number.length

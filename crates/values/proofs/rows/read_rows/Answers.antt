@@ -1,17 +1,20 @@
+use Rattle.std.proofs.Common.{vec_items}
 use Rattle.values.specs.Texts.{rows_text}
-use Rattle.values.specs.Reading.{StopsAt, NoText}
-use Rattle.values.specs.Rows.{Stopping}
-use Rattle.values.proofs.Rowing.{stops_whole, more_follows, whole_rows, stopping_so, hands_on}
+use Rattle.values.proofs.Rowing.{row_separate, hands_on, stops_whole, more_follows, rows_kept, held_covers, whole_rows}
 use Rattle.values.proofs.rows.read_rows.Goals as goal
 
+pub read_list-requires : goal.read_list-requires
+read_list-requires c = row_separate
+
 pub returns-in_err-length : goal.returns-in_err-length
-returns-in_err-length c =
-    let s = c.args.text.now in
-    hands_on _ _ (Stopping (NoText rows_text s)) _ c.from_residual.ensures.1
-    (stopping_so (StopsAt rows_text s) (NoText rows_text s) (stops_whole rows_text s) _ c.in_err-length.ensures)
+returns-in_err-length c = hands_on _ _ _ _ (stops_whole rows_text c.args.text.now) _ c.from_residual.ensures.1 c.in_err-length.ensures
 
 pub returns-then-length-text : goal.returns-then-length-text
 returns-then-length-text c = more_follows rows_text _ _ _ c.in_ok-length.ensures.is c.if-length-text.true
 
+pub invariant_of-result : goal.invariant_of-result
+invariant_of-result c = record { covered = held_covers _ _ _ (rows_kept (λ r. vec_items r.ints) (λ r. vec_items r.lengths) _ _ _ c.new.ensures.items c.new-2.ensures.items c.in_ok-length.ensures.kept) }
+
 pub returns : goal.returns
-returns c = whole_rows _ _ _ _ c.in_ok-length.ensures c.if-length-text.false
+returns c =
+    whole_rows _ _ _ _ _ c.in_ok-length.ensures.is (rows_kept (λ r. vec_items r.ints) (λ r. vec_items r.lengths) _ _ _ c.new.ensures.items c.new-2.ensures.items c.in_ok-length.ensures.kept) c.if-length-text.false

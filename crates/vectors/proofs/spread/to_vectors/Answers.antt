@@ -1,39 +1,25 @@
-use Rattle.std.proofs.Common.{◌≡◌, ◌<◌, ◌≤◌, Some, sym, refl, ◌∙◌, subst, arith, length-set}
-use Rattle.types.specs.Table.{type_of}
-use Rattle.types.specs.Entries.{counted}
-use Rattle.vectors.specs.Placing.{Spreads}
-use Rattle.vectors.proofs.Placing.{none_written, spread_more, spread_stops, spread_all, too_little}
+use Rattle.std.proofs.Common.{inr, length, ap, refl, arith, rules}
+use Rattle.types.specs.TypeRefs.{meant}
+use Rattle.vectors.proofs.Sums.{celled}
+use Rattle.vectors.proofs.Placing.{spread_none, spread_more, spread_stops, spread_all}
 use Rattle.vectors.proofs.spread.to_vectors.Goals as goal
 
 pub returns-then-out-cells : goal.returns-then-out-cells
-returns-then-out-cells c = too_little (type_of c.args.types.now c.args.code) c.args.cells.now _ c.if-out-cells.true
+returns-then-out-cells c v fits is = (inr (omega (arith, c.if-out-cells.true, ap length is, celled (meant c.args.t) v)), refl)
 
 pub loop-k-init : goal.loop-k-init
-loop-k-init c = (refl, none_written (type_of c.args.types.now c.args.code) _ _ _)
-
-pub returns-in_err-walk : goal.returns-in_err-walk
-returns-in_err-walk c =
-    let t = type_of c.args.types.now c.args.code in
-    let few : counted t ≤ 8 = omega arith in
-    let more : c.loop-k.k < counted t = omega arith in
-    subst (λ r. Spreads t c.args.cells.now c.args.out.now r c.walk_value.new.out) (sym c.from_residual.ensures)
-    (spread_stops t c.loop-k.k _ _ c.loop-k.start c.loop-k.spans c.loop-k.out c.loop-k.invariant.1 more few c.if-out-cells.false _
-    c.in_err-walk.ensures)
+loop-k-init c = record { same_reference = refl; number = search rules; spread = rw c.new-layout.ensures spread_none }
 
 pub loop-k-preserved : goal.loop-k-preserved
-loop-k-preserved c =
-    let t = type_of c.args.types.now c.args.code in
-    let more : c.loop-k.k < counted t = omega arith in (
-      length-set c.loop-k.spans c.loop-k.k _ ∙ c.loop-k.invariant.0,
-      spread_more t c.loop-k.k _ _ c.loop-k.start c.loop-k.spans c.loop-k.out c.loop-k.invariant.1 more c.loop-k.invariant.0
-          c.in_ok-walk.walk _ c.in_ok-walk.ensures,
-    )
+loop-k-preserved c = record {
+  same_reference = search rules;
+  number = search rules;
+  spread = rw c.push.ensures.items (spread_more c.loop-k.invariant.spread (omega (arith, c.loop-k-test.true, c.parts-count.ensures)) c.in_ok-walk_value.ensures.walks);
+}
+
+pub returns-in_err-walk_value : goal.returns-in_err-walk_value
+returns-in_err-walk_value c v fits is = absurd (spread_stops c.loop-k.invariant.spread (omega (arith, c.loop-k-test.true, c.parts-count.ensures))
+    c.in_err-walk_value.ensures.walks (omega arith) c.if-out-cells.false refl v fits is)
 
 pub returns : goal.returns
-returns c =
-    let t = type_of c.args.types.now c.args.code in
-    let few : counted t ≤ 8 = omega arith in
-    let all : c.loop-k.k ≡ counted t = omega arith in
-    let end : c.loop-k.k ≡ c.parts-count.result = omega arith in
-    subst (λ n. Spreads t c.args.cells.now c.args.out.now (Some (record { spans = c.loop-k.spans; count = n })) c.loop-k.out) end
-    (spread_all t c.loop-k.k _ _ c.loop-k.start c.loop-k.spans c.loop-k.out c.loop-k.invariant.1 all few c.if-out-cells.false)
+returns c = spread_all c.loop-k.invariant.spread (omega (arith, c.loop-k-test.false, c.parts-count.ensures)) (omega arith) c.if-out-cells.false (search rules)

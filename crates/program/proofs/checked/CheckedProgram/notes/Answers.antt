@@ -13,6 +13,6 @@ returns c =
     let p = c.args.self.now in
     record {
       are = c.notes.ensures;
-      within = subst (λ ns. Under (length (types_in (types_of p))) (note_codes ns)) (sym c.notes.ensures) p.checker.codes.2;
+      within = subst (λ ns. Under (length (types_in (types_of p))) (note_codes ns)) (sym c.notes.ensures) p.memory.checker.codes.2;
       typed = λ q h. subst (λ ns. Resolves (done_in p) (map (note_of (types_in (types_of p))) ns) (program_occs q)) (sym c.notes.ensures) h.typed;
     }

@@ -1,7 +1,8 @@
-use Rattle.std.proofs.Common.{ap, ◌∙◌}
-use Rattle.types.specs.Table.{type_of}
-use Rattle.program.proofs.Texts.{whole_spelled}
+use Rattle.std.proofs.Common.{◌≡◌, string_bytes, ap, ◌∙◌}
+use Rattle.std.proofs.lemmas.Result.{IfOk-weaker}
+use Rattle.types.specs.TypeRefs.{meant}
+use Rattle.program.specs.Spelling.{spelled}
 use Rattle.program.proofs.checked.CheckedProgram.parameter_text.Goals as goal
 
 pub returns : goal.returns
-returns c p h = whole_spelled c.in_ok-spell.ensures c.new-text.ensures.bytes (ap (λ t. type_of t c.parameter.result) c.types.ensures ∙ c.parameter.ensures.is p h)
+returns c = IfOk-weaker _ (λ s. string_bytes s ≡ spelled (meant c.parameter.result)) _ (λ s e p h. e ∙ ap spelled (c.parameter.ensures.is p h)) c.text_of.ensures

@@ -7,4 +7,7 @@ use Rattle.reader.proofs.parser.Parser.expect.Goals as goal
 pub returns-else-accept : goal.returns-else-accept
 returns-else-accept c =
     let same = c.if-accept.ensures.0 in
-    record { lender = ap (λ x. x.table.ghost_name) same; capacity = ap (λ x. vec_capacity x.table.now) same; refuses = λ γ s free. lacks c.requires.0.within c.if-accept.ensures.1 (subst (λ x. of_parse c.refusal.result ≡ refusal_at x.tokens.now x.at) same c.refusal.ensures) s }
+    record {
+      kept = record { tokens = ap (λ x. x.tokens) same; lender = ap (λ x. x.table.ghost_name) same; capacity = ap (λ x. vec_capacity x.table.now) same };
+      refuses = λ γ free s. lacks c.args.self.now.within c.if-accept.ensures.1 (subst (λ x. of_parse c.refusal.result ≡ refusal_at x.tokens.now x.at) same c.refusal.ensures) s;
+    }

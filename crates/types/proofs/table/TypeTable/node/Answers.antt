@@ -1,9 +1,8 @@
-use Rattle.std.proofs.Common.{arith}
-use Rattle.types.proofs.Held.{sized, node_read}
+use Rattle.std.proofs.Common.{sym, subst}
+use Rattle.types.specs.Table.{types_in, Shows}
+use Rattle.types.proofs.Held.{node_read}
 use Rattle.types.proofs.table.TypeTable.node.Goals as goal
 
-pub index-requires : goal.index-requires
-index-requires c = omega (arith, c.requires, sized c.args.self.now)
-
 pub returns : goal.returns
-returns c = node_read c.args.self.now _ _ c.requires c.index.ensures
+returns c =
+    subst (λ e. Shows (types_in c.args.self.now) c.args.code e.node) (sym c.entry.ensures) (node_read c.args.self.now c.args.code)

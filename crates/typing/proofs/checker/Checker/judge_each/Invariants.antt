@@ -6,4 +6,7 @@ use Rattle.typing.proofs.checker.Checker.judge_each.Given as goal
 
 -- what is left leads where all would, and the state is small
 abbrev pub invariant-loop-o : goal.invariant-loop-o
-invariant-loop-o l = (judge (drop l.o-index l.occurrences) (held l.self) ≡ judge l.occurrences begin) × Small l.o-index (held l.self)
+invariant-loop-o l = record {
+  leads : judge (drop l.o-index l.occurrences) (held l.self) ≡ judge l.occurrences begin;
+  small : Small l.o-index (held l.self);
+}

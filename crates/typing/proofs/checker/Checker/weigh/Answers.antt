@@ -8,4 +8,4 @@ overflow_add-self c = search rules
 
 pub returns : goal.returns
 unfolding held
-returns c = record { holds = refl; types = refl }
+returns c = refl

@@ -1,34 +1,28 @@
-use Rattle.std.proofs.Common.{◌≡◌, ℕ, ◌+◌, ◌-◌, ◌<◌, [], map, reverse, length, drop, ap, ◌∙◌, zero-add, arith}
+use Rattle.std.proofs.Common.{◌≡◌, ◌<◌, map, reverse, drop, sym, ap, ◌∙◌, arith, rules, tests}
+use Rattle.std.specs.List.{sum_by, filter, zip}
+use Rattle.std.proofs.lemmas.List.{drop-map}
+use Rattle.std.proofs.lemmas.Iterator.{YieldsList-from_slice, YieldsList-from_map, YieldsList-from_zip}
+use Rattle.std.proofs.lemmas.Iterator.Adapters.{YieldsList-from_rev_slice, YieldsList-from_skip}
+use Rattle.std.proofs.lemmas.Iterator.Consumers.{YieldsList-at, YieldsList-from_filter, sum_by_from_yields_List, fits_by_from_yields_list}
 use Rattle.types.specs.Table.{types_in}
 use Rattle.judging.specs.Judging.{parts_used}
 use Rattle.typing.specs.Codes.{binding_of}
-use Rattle.typing.proofs.Lists.{under_at}
-use Rattle.typing.proofs.Weighing.{count_out, count-all, count-used, count_unused}
+use Rattle.typing.proofs.Weighing.{parts_at, used_sum, used_few}
 use Rattle.typing.proofs.checker.weight.parts_flagged.Goals as goal
-use Rattle.typing.proofs.checker.weight.parts_flagged.Goals.{then-used, else-used}
 
-pub returns-then-skip-i : goal.returns-then-skip-i
-returns-then-skip-i c =
-    record { is = count_out (types_in c.args.types.now) c.args.scope.now c.args.skip c.args.flags.now _ c.loop-i.i c.loop-i.sum c.if-skip-i.true c.loop-i.invariant.0; small = omega (arith, c.loop-i.invariant.1) }
-
-pub parts-sum-requires : goal.parts-sum-requires
-parts-sum-requires c =
-    let i : length c.args.scope.now - 1 - (c.args.skip + c.loop-i.i) < length c.args.scope.now = omega (arith, c.if-skip-i.false) in
-    under_at (λ b. b.code) _ c.args.scope.now _ _ c.requires.within i
-
-pub loop-i-preserved : goal.loop-i-preserved
-loop-i-preserved c =
-    elim c.if-used.branch [
-      | then-used w ↦ (count-used (types_in c.args.types.now) c.args.scope.now c.args.skip c.args.flags.now _ c.loop-i.i c.loop-i.sum _ c.if-skip-i.false c.loop-i-test.true w.if-used.true _ _ w.parts-sum.ensures w.sum-is c.loop-i.invariant.0, omega (arith, c.loop-i.invariant.1, w.parts-sum.ensures, w.sum-is))
-      | else-used w ↦ (count_unused (types_in c.args.types.now) c.args.scope.now c.args.skip c.args.flags.now _ c.loop-i.i c.loop-i.sum (record { name = record { bytes = [] }; code = 0 }) c.if-skip-i.false c.loop-i-test.true w.if-used.false _ w.sum-is c.loop-i.invariant.0, omega (arith, c.loop-i.invariant.1, w.sum-is))
-    ]
-
-pub loop-i-init : goal.loop-i-init
-loop-i-init c =
-    let all : ℕ → ℕ = λ k. parts_used (drop k (map (binding_of (types_in c.args.types.now)) (reverse c.args.scope.now))) c.args.flags.now in
-    let z : c.args.skip + 0 ≡ c.args.skip = omega arith in
-    (zero-add (all (c.args.skip + 0)) ∙ ap all z, omega arith)
+pub sum-requires-clause-fits : goal.sum-requires-clause-fits
+sum-requires-clause-fits c =
+    let sc = drop c.args.skip (reverse c.args.scope.now) in
+    let us = c.args.flags.now in
+    let ts = types_in c.args.types.now in
+    let few : sum_by (parts_at ts) (filter (λ p. p.1) (zip sc us)) < 18446744073709551616 = omega (arith, used_sum ts sc us, used_few (map (binding_of ts) sc) us, c.requires) in
+    fits_by_from_yields_list (parts_at ts) (filter (λ p. p.1) (zip sc us)) c.map.result 18446744073709551616 (YieldsList-from_map _ (parts_at ts) (YieldsList-at c.map.ensures.source (YieldsList-from_filter _ (λ p. p.1) (YieldsList-at c.filter.ensures.source (YieldsList-from_zip (YieldsList-at c.zip.ensures.first (YieldsList-from_skip c.args.skip (YieldsList-at c.skip.ensures.source (YieldsList-from_rev_slice c.args.scope.now (cc))) c.skip.ensures.count)) (YieldsList-from_slice us (cc)))) c.filter.ensures.closure (λ x r q k. search (rules, tests)))) c.map.ensures.closure (λ x r q k. search (rules, tests))) few
 
 pub returns : goal.returns
 returns c =
-    record { is = count-all (types_in c.args.types.now) c.args.scope.now c.args.skip c.args.flags.now _ c.loop-i.i c.loop-i.sum c.loop-i-test.false c.loop-i.invariant.0; small = omega (arith, c.loop-i.invariant.1) }
+    let sc = drop c.args.skip (reverse c.args.scope.now) in
+    let us = c.args.flags.now in
+    let ts = types_in c.args.types.now in
+    let total : c.sum.result ≡ parts_used (map (binding_of ts) sc) us =
+    sum_by_from_yields_List (parts_at ts) (filter (λ p. p.1) (zip sc us)) c.map.result c.sum.result c.sum.ensures.ran (YieldsList-from_map _ (parts_at ts) (YieldsList-at c.map.ensures.source (YieldsList-from_filter _ (λ p. p.1) (YieldsList-at c.filter.ensures.source (YieldsList-from_zip (YieldsList-at c.zip.ensures.first (YieldsList-from_skip c.args.skip (YieldsList-at c.skip.ensures.source (YieldsList-from_rev_slice c.args.scope.now (cc))) c.skip.ensures.count)) (YieldsList-from_slice us (cc)))) c.filter.ensures.closure (λ x r q k. search (rules, tests)))) c.map.ensures.closure (λ x r q k. search (rules, tests))) ∙ used_sum ts sc us in
+    record { is = total ∙ ap (λ s. parts_used s us) (sym (drop-map (binding_of ts) c.args.skip (reverse c.args.scope.now))); small = omega (arith, total, used_few (map (binding_of ts) sc) us) }

@@ -1,5 +1,0 @@
-use Rattle.monoid.specs.IntsLemmas.{same_int}
-use Rattle.monoid.proofs.int.Int.lowest.Goals as goal
-
-pub returns : goal.returns
-returns c = same_int _ _ c.new.ensures

@@ -1,8 +1,0 @@
-use Rattle.std.proofs.Common.{vec_items, arith}
-use Rattle.plan.specs.Holding.{held}
-use Rattle.plan.proofs.Held.{at_scope, popped}
-use Rattle.plan.proofs.plan.Plan.leave.Goals as goal
-
-pub returns : goal.returns
-unfolding held
-returns c = at_scope (held c.args.self.now) (popped (vec_items c.args.self.now.scope) _ (omega (arith, c.saturating_sub.ensures, c.len-n.ensures, c.args.self.now.scope.ok.0)) c.truncate.ensures.items)
