@@ -1,10 +1,11 @@
 -- Beginnings of decimal numerals are decimal numerals.
-use Rattle.std.proofs.Common.{◌≡◌, ℕ, suc, ◌+◌, ◌-◌, ◌*◌, ◌/◌, ◌%◌, ◌^◌, ◌<◌, ◌≤◌, List, [], ◌∷◌, ◌++◌, length, get_or, take, decimal, sym, refl, ap, ◌∙◌, ⊎_elim, arith, length-append}
+use Rattle.std.proofs.Common.{◌≡◌, ℕ, zero, suc, ◌+◌, ◌-◌, ◌*◌, ◌/◌, ◌%◌, ◌^◌, ◌<◌, ◌≤◌, List, [], ◌∷◌, ◌++◌, length, get_or, take, Some, None, Option, IfNone, IfSome, unwrap_or, decimal, sym, refl, ap, ◌∙◌, ⊎_elim, arith, length-append}
 use Rattle.std.specs.Int.{IsInRange}
 use Rattle.std.proofs.lemmas.Fmt.{decimal_is_IsNumeral, decimal_digit, decimal_step, decimal_by_steps, decimal_nonempty}
 use Rattle.std.proofs.lemmas.List.{get_or_at, length_push, take_all, take-append-le}
 use Rattle.std.proofs.lemmas.Str.Parse.{digit_at}
 use Rattle.std.proofs.lemmas.Bool.{cases_lt}
+use Rattle.std.proofs.Math.Nat.{pow-succ'}
 
 -- each byte of a numeral is a digit
 pub digit_in : (n c : ℕ) (p r : List ℕ) → n < 2 ^ 64 → decimal n ≡ p ++ c ∷ r → IsInRange 48 57 c
@@ -43,6 +44,30 @@ fronts_more n ds large front h =
 
 pub decimal_front : (n k : ℕ) → n < 2 ^ 64 → 0 < k → k ≤ length (decimal n) → Front n (decimal n) k
 decimal_front n k h some few = (decimal_by_steps Fronts fronts_one fronts_more n h h).1 k some few
+
+-- ---- how many digits
+ten_some : (k : ℕ) → 0 < 10 ^ k
+ten_some zero = omega arith
+ten_some (suc k) = omega (arith, pow-succ' 10 k, ten_some k)
+
+-- one more than the power of ten that the number reaches
+abbrev Counts : ℕ → List ℕ → Type 0
+Counts n ds = (k : ℕ) → 10 ^ k ≤ n → n < 10 * 10 ^ k → length ds ≡ k + 1
+
+counts_one : (n : ℕ) → n < 10 → Counts n ((48 + n) ∷ [])
+counts_one n small zero le lt = refl
+counts_one n small (suc k) le lt = absurd (omega (arith, pow-succ' 10 k, ten_some k))
+
+counts_more : (n : ℕ) (ds : List ℕ) → 10 ≤ n → Counts (n / 10) ds → Counts n (ds ++ ((48 + n % 10) ∷ []))
+counts_more n ds large count zero le lt = absurd (omega arith)
+counts_more n ds large count (suc k) le lt =
+    let front : length ds ≡ k + 1 = count k (omega (arith, pow-succ' 10 k)) (omega (arith, pow-succ' 10 k)) in
+    omega (arith, length_push ds (48 + n % 10))
+
+-- by the logarithm, which a zero does not have
+pub length_by_log : (n : ℕ) (log : Option ℕ) → n < 2 ^ 64 → IfNone log (n ≡ 0) → IfSome log (λ k. 10 ^ k ≤ n) → IfSome log (λ k. n < 10 * 10 ^ k) → length (decimal n) ≡ unwrap_or log 0 + 1
+length_by_log n None h none le lt = ap (λ m. length (decimal m)) none ∙ ap length (decimal_digit 0 (omega arith))
+length_by_log n (Some k) h none le lt = decimal_by_steps Counts counts_one counts_more n h k le lt
 
 -- the numeral of a number of two digits and more
 pub two_digits : (n : ℕ) → 1 < length (decimal n) → 10 ≤ n

@@ -56,6 +56,10 @@ module _ (s : List ℕ) (plain : get_or s 0 0 ≡ 45 → ⊥) (value n : ℕ) (r
       some (negsuc j) small = omega arith
 
 -- ---- after a minus sign
+pub some_byte : (s : List ℕ) → get_or s 0 0 ≡ 45 → 0 < length s
+some_byte [] e = absurd (omega arith)
+some_byte (b ∷ s) e = omega arith
+
 module _ (t : List ℕ) (value n : ℕ) (reads : ReadsMagnitude (2 ^ hbits width) t value n) where
   minus_beyond : (z : ℤ) → mag z < 2 ^ hbits width → (k : ℕ) (r : List ℕ) → n < k → k ≤ length t → signed_decimal z ≡ 45 ∷ (take k t ++ r) → ⊥
   minus_beyond (pos j) small k r past within e = no_minus j (take k t ++ r) (omega arith) e

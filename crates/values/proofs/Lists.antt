@@ -37,6 +37,14 @@ module _ {X : Type 0} (text : X → List ℕ) where
   each_push [] x = refl
   each_push (y ∷ xs) x = ap (λ t. text y ++ (44 ∷ t)) (each_push xs x) ∙ sym (append_assoc (text y) (44 ∷ each_text text xs) (text x ++ (44 ∷ [])))
 
+  each_long : (xs : List X) → length xs ≤ length (each_text text xs)
+  each_long [] = omega arith
+  each_long (x ∷ xs) = omega (arith, each_long xs, length-append (text x) (44 ∷ each_text text xs))
+
+  -- an opened list has fewer elements than bytes
+  pub few : (s : List ℕ) (xs : List X) (at : ℕ) → Opened text s xs at → length xs < at
+  few s xs at opened = omega (arith, each_long xs, ap length opened.is, length-take-le at s opened.within)
+
   module _ (separate : Separate text) where
     -- what follows an opened list begins with an element
     each_then : (v : X) (vs xs : List X) (t : List ℕ) → text v ++ more_text text vs ≡ each_text text xs ++ t → (y : X) × (ys : List X) × (t ≡ text y ++ more_text text ys)

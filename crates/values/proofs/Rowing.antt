@@ -1,8 +1,8 @@
 -- Reading a list, element by element, and rows.
-use Rattle.std.proofs.Common.{◌≡◌, ℕ, ◌+◌, ◌<◌, ◌≤◌, List, [], ◌∷◌, ◌++◌, length, get_or, take, drop, IsErrAnd, Result, MatchResult, sum, sym, refl, ap, ◌∙◌, subst, ap₂, inl, inr, ⊎_elim, append_assoc, append-nil, arith}
+use Rattle.std.proofs.Common.{◌≡◌, ℕ, ◌+◌, ◌-◌, ◌<◌, ◌≤◌, List, [], ◌∷◌, ◌++◌, length, get_or, take, drop, IsErrAnd, Result, MatchResult, sum, sym, refl, ap, ◌∙◌, subst, ap₂, inr, ⊎_elim, append_assoc, append-nil, arith}
 use Rattle.std.specs.List.{FoldsTo}
 use Rattle.std.proofs.lemmas.Fn.{FoldsTo-push, chained_keeps}
-use Rattle.std.proofs.lemmas.List.{take_all, take_more, map_push, get_or-drop, get_or_past}
+use Rattle.std.proofs.lemmas.List.{take_rest, take_all, take_more, map_push, get_or-drop, get_or_past}
 use Rattle.std.proofs.lemmas.Result.{err_from_is_err_and}
 use Rattle.std.proofs.lemmas.Bool.{cases_lt}
 use Rattle.monoid.specs.Segments.{concat}
@@ -11,7 +11,7 @@ use Rattle.monoid.specs.declared.int.Int.{Int}
 use Rattle.values.specs.Signs.{byte_of}
 use Rattle.values.specs.declared.sign.Sign.{Sign}
 use Rattle.values.specs.declared.sign.Sign.TheVariants.{Comma, Bracket}
-use Rattle.values.specs.Lists.{Separate, Opened, ElementIs, ReadsElement, ReadsList}
+use Rattle.values.specs.Lists.{Separate, Opened, ElementIs, NoElement, ReadsElement, ReadsList}
 use Rattle.values.specs.Reading.{ReadsFront, StopsAt, NoText}
 use Rattle.values.specs.Rows.{Stopping, Behind, Holds, RowsRead}
 use Rattle.values.specs.declared.fault.ReadFault.{ReadFault}
@@ -20,6 +20,14 @@ use Rattle.values.specs.Texts.{int_text, list_text, row_text, rows_text}
 use Rattle.values.proofs.IntTexts.{int_separate, same_text_int}
 use Rattle.values.proofs.Lists.{element_opens, element_closes, list_stops, empty_read}
 use Rattle.values.proofs.Separate.{list_separate, list_same}
+
+-- ---- an element with no sign behind it, read where the code lends the rest of s
+pub no_sign : {X K : Type 0} (text : X → List ℕ) (keeps : K → X → K → Type 0) (s : List ℕ) (at n : ℕ) (before after : K) → ReadsElement text keeps (take (length s - at) (drop at s)) n before after
+    → (get_or s (at + n) 0 ≡ 44 → ⊥) → (get_or s (at + n) 0 ≡ 93 → ⊥) → Behind at (NoElement text (drop at s)) (at + n)
+no_sign text keeps s at n before after lent p q =
+    let here = get_or-drop at s n 0 in
+    let reads = rw (take_rest s at) at lent in
+    (n, refl, inr (reads.element, reads.is, (λ e. p (sym here ∙ e)), (λ e. q (sym here ∙ e))))
 
 -- ---- a list that is open
 module _ {X K : Type 0} (text : X → List ℕ) (keeps : K → X → K → Type 0) (s : List ℕ) where
@@ -34,8 +42,8 @@ module _ {X K : Type 0} (text : X → List ℕ) (keeps : K → X → K → Type 
     none_read k r e = record { elements = []; is = empty_read text s separate (ap (λ t. get_or t 0 0) e) (ap (λ t. get_or t 1 0) e); kept = refl }
 
     module _ (at : ℕ) (before now : K) (so_far : ListOpened at before now) where
-      pub element_stops : (f : ReadFault) → Stopping (Behind at (StopsAt text (drop at s))) f → Stopping (StopsAt (list_text text) s) f
-      element_stops (NoValue p) stop = subst (StopsAt (list_text text) s) (sym stop.1) (list_stops text separate (drop at s) stop.0 (inl stop.2) s so_far.elements at so_far.opened refl)
+      pub element_stops : (f : ReadFault) → Stopping (Behind at (NoElement text (drop at s))) f → Stopping (StopsAt (list_text text) s) f
+      element_stops (NoValue p) stop = subst (StopsAt (list_text text) s) (sym stop.1) (list_stops text separate (drop at s) stop.0 stop.2 s so_far.elements at so_far.opened refl)
       element_stops Memory stop = tt
 
       module _ (after : K) (end : ℕ) (reads : Behind at (λ n. ReadsElement text keeps (drop at s) n now after) end) where
@@ -71,11 +79,6 @@ module _ {X K : Type 0} (text : X → List ℕ) (keeps : K → X → K → Type 
           is = subst (ReadsFront (list_text text) s _) behind (element_closes text separate s so_far.elements at so_far.opened _ _ (signed Bracket e (λ z. omega arith)));
           kept = kept_more;
         }
-
-        pub no_sign : (get_or s end 0 ≡ 44 → ⊥) → (get_or s end 0 ≡ 93 → ⊥) → StopsAt (list_text text) s end
-        no_sign p q =
-            subst (StopsAt (list_text text) s) (sym reads.1)
-            (list_stops text separate (drop at s) reads.0 (inr (reads.2.element, reads.2.is, (λ e. p (sym byte_is ∙ e)), (λ e. q (sym byte_is ∙ e)))) s so_far.elements at so_far.opened refl)
 
 -- the exit of a `?`, where the refusal is handed on
 pub hands_on : {T : Type 0} (r : Result T ReadFault) (A : T → Type 0) (P Q : ReadFault → Type 0) → ((f : ReadFault) → P f → Q f) → (f : ReadFault) → IsErrAnd r (λ y. y ≡ f) → P f → MatchResult r A Q

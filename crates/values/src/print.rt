@@ -1,20 +1,29 @@
 // Values as texts in a lent output. Each `write_` fills just the slice that it is given.
-ghost use Rattle.std.specs.Prelude.{◌≡◌, ℕ, ◌+◌, ◌^◌, ◌<◌, ◌≤◌, [], ◌∷◌, ◌++◌, length, take, MatchResult};
+ghost use Rattle.std.specs.Prelude.{◌≡◌, ℕ, ◌+◌, ◌^◌, ◌<◌, ◌≤◌, [], ◌∷◌, ◌++◌, length, take, decimal, MatchResult};
 ghost use Rattle.values.specs.Texts.{int_text, list_text};
 ghost use Rattle.values.specs.Printing.{Printed, Short, of_print};
 ghost use Rattle.values.specs.Signs.{byte_of};
 
 use crate::sign::Sign;
-use itoa::Buffer;
+use itoa::write_digits;
 use monoid::int::Int;
 use refusal::Refusal;
+
+// How many digits a number has.
+fn digit_count(number: u32) -> usize
+    ensures count { result ≡ length (decimal number) }
+    ensures few { result ≤ 10 }
+{
+    number.checked_ilog10().unwrap_or(0) as usize + 1
+}
 
 // The length of the text of an int.
 pub fn int_length(x: Int) -> usize
     ensures length { result ≡ length (int_text x) }
     ensures few { result ≤ 11 }
 {
-    Buffer::new().format(x.value).len()
+    let digits = digit_count(x.value.unsigned_abs());
+    if x.value < 0 { digits + 1 } else { digits }
 }
 
 // Writes the text of an int.
@@ -22,7 +31,11 @@ pub fn write_int(x: Int, out: &mut [u8])
     requires { length out.old ≡ length (int_text x) }
     ensures { out.new ≡ int_text x }
 {
-    out.copy_from_slice(Buffer::new().format(x.value).as_bytes());
+    let end = out.len();
+    write_digits(u64::from(x.value.unsigned_abs()), out, end);
+    if x.value < 0 {
+        out[0] = b'-';
+    }
 }
 
 // Writes an element of a list and the sign behind it from a place on, and answers the place behind them.

@@ -7,12 +7,12 @@ ghost use Rattle.values.specs.Rows.{Stopping, RowsRead};
 ghost use Rattle.values.specs.declared.fault.ReadFault.TheVariants.{NoValue};
 
 use crate::fault::ReadFault;
-use crate::front::Stopped;
+use crate::front::{Front, Stopped};
 use crate::int_text::read_int;
 use crate::list::{Elements, read_list};
 use monoid::int::Int;
 use monoid::segmented::Segments;
-use std::alloc::Global;
+use std::alloc::{AllocError, Global};
 
 // Rows side by side: all their ints, and the length of each.
 #[derive(Drop)]
@@ -45,20 +45,27 @@ impl From<Stopped> for ReadFault {
 }
 
 impl Elements for Vec<Int> {
+    type Read = Int;
+
     ghost Element = { TheInt };
 
     ghost spelled = { int_text };
 
+    ghost Finds = { λ read before x after. (read ≡ x) × (after.items ≡ before.items) };
+
     ghost Keeps = { λ before x after. after.items ≡ before.items ++ (x ∷ []) };
 
-    fn read_element(&mut self, text: &[u8]) -> Result<usize, ReadFault> {
-        let read = read_int(text)?;
-        self.push(read.value)?;
-        Ok(read.length)
+    fn read_element(&mut self, text: &[u8]) -> Result<Front<Int>, ReadFault> {
+        Ok(read_int(text)?)
+    }
+
+    fn keep(&mut self, read: Int) -> Result<(), AllocError> {
+        self.push(read)?;
+        Ok(())
     }
 }
 
-// Rows while they are read: the last one's ints may be there before its length.
+// Rows while they are read: the last one's ints are there before its length.
 #[derive(Drop)]
 struct Gathered {
     ints: Vec<Int>,
@@ -66,17 +73,29 @@ struct Gathered {
 }
 
 impl Elements for Gathered {
+    // How many ints the row has.
+    type Read = usize;
+
     ghost Element = { List TheInt };
 
     ghost spelled = { row_text };
 
+    ghost Finds = { λ count before row after. (count ≡ length row) × (after.ints.items ≡ before.ints.items ++ row) × (after.lengths.items ≡ before.lengths.items) };
+
     ghost Keeps = { λ before row after. (after.ints.items ≡ before.ints.items ++ row) × (after.lengths.items ≡ before.lengths.items ++ (length row ∷ [])) };
 
-    fn read_element(&mut self, text: &[u8]) -> Result<usize, ReadFault> {
+    fn read_element(&mut self, text: &[u8]) -> Result<Front<usize>, ReadFault> {
         let before = self.ints.len();
         let length = read_list(text, &mut self.ints)?;
-        self.lengths.push(self.ints.len() - before)?;
-        Ok(length)
+        Ok(Front {
+            value: self.ints.len() - before,
+            length,
+        })
+    }
+
+    fn keep(&mut self, count: usize) -> Result<(), AllocError> {
+        self.lengths.push(count)?;
+        Ok(())
     }
 }
 
