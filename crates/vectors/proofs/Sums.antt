@@ -22,6 +22,9 @@ sum-map : {A B : Type 0} (f : B → ℕ) (g : A → B) (xs : List A) → sum_by 
 sum-map f g [] = refl
 sum-map f g (x ∷ xs) = simp (sum-map f g xs)
 
+pub same_sums : {A B : Type 0} (f : A → ℕ) (g : B → ℕ) (xs : List A) (ys : List B) → map f xs ≡ map g ys → sum_by f xs ≡ sum_by g ys
+same_sums f g xs ys e = sym (sum-map (λ n. n) f xs) ∙ ap (sum_by (λ n. n)) e ∙ sum-map (λ n. n) g ys
+
 sum-plus : {A : Type 0} (f g : A → ℕ) (xs : List A) → sum_by (λ x. f x + g x) xs ≡ sum_by f xs + sum_by g xs
 sum-plus f g [] = refl
 sum-plus f g (x ∷ xs) = simp (sum-plus f g xs) (omega arith)
@@ -82,6 +85,10 @@ part-append t vs ws k = rw (appended t vs ws) (part-beside (vectors t vs) (vecto
 length_each : {A B : Type 0} (f : A → List B) (n : A → ℕ) → ((x : A) → length (f x) ≡ n x) → (xs : List A) → length (flat_map f xs) ≡ sum_by n xs
 length_each f n e [] = refl
 length_each f n e (x ∷ xs) = omega (arith, length-append (f x) (flat_map f xs), e x, length_each f n e xs)
+
+pub each_append : {A B : Type 0} (f : A → List B) (xs ys : List A) → flat_map f (xs ++ ys) ≡ flat_map f xs ++ flat_map f ys
+each_append f [] ys = refl
+each_append f (x ∷ xs) ys = simp (append_assoc, each_append f xs ys)
 
 pub celled : CellsLaw
 celled int v = refl

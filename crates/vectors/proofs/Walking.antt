@@ -1,5 +1,5 @@
 -- The walk over cells that writes one vector, value by value.
-use Rattle.std.proofs.Common.{◌≡◌, ℕ, suc, ◌≤◌, ◌⊎◌, inr, List, [], ◌∷◌, ◌++◌, length, Some, None, Option, sym, refl, ap, ◌∙◌, subst, append-nil, append_assoc, arith, length-append}
+use Rattle.std.proofs.Common.{◌≡◌, ℕ, suc, ◌≤◌, ◌⊎◌, inr, List, [], ◌∷◌, ◌++◌, length, Some, None, Option, slice_get, sym, refl, ap, ◌∙◌, subst, append-nil, append_assoc, arith, length-append}
 use Rattle.std.proofs.lemmas.List.{nil_from_length}
 use Rattle.monoid.specs.declared.int.Int.{Int}
 use Rattle.types.specs.Types.{Ty, pair, list, parts}
@@ -45,6 +45,16 @@ pub record WalksAll (t : Ty) (n : ℕ) (k : Option ℕ) (cs : List Int) (w : Wri
       → cs ≡ flat_map (cells t) vs ++ rest → length (wanted k (vectors t vs)) ≤ length (room w)
       → Goes tt rest (wanted k (vectors t vs)) w r cs' w'
 
+-- a list's first cell is its length
+module _ (a : Ty) {cs : List Int} (v : Val (list a)) (rest : List Int) (is : cs ≡ cells (list a) v ++ rest) where
+  begins : slice_get cs 0 ≡ Some (count (length v))
+  begins = ap (λ cs. slice_get cs 0) is
+
+  read : (x : Int) (m : Option ℕ) → Some x ≡ slice_get cs 0 → IsLength x m → Countable (size (list a) v) → m ≡ Some (length v)
+  read x m first is_length fits =
+      let same : x ≡ count (length v) = let e = first ∙ begins in cc in
+      length_is x (length v) (omega (arith, few a v)) same m is_length
+
 module _ (a : Ty) {k k' : Option ℕ} {cs cs₁ : List Int} {w w₁ : Writer} {r : Option Int} (past : Past k 1 k') (first : Steps k cs w r cs₁ w₁)
     (v : Val (list a)) (rest : List Int) (is : cs ≡ cells (list a) v ++ rest)
     (h : length (wanted k (vectors (list a) (v ∷ []))) ≤ length (room w)) where
@@ -54,25 +64,24 @@ module _ (a : Ty) {k k' : Option ℕ} {cs cs₁ : List Int} {w w₁ : Writer} {r
   stepped : Goes (count (length v)) (flat_map (cells a) v ++ rest) (wanted k ((count (length v) ∷ []) ∷ [])) w r cs₁ w₁
   stepped = goes_first (wanted k' (vectors a v)) split h (first.goes (count (length v)) (flat_map (cells a) v ++ rest) is)
 
-  read : (x : Int) (m : Option ℕ) → r ≡ Some x → IsLength x m → Countable (size (list a) v) → m ≡ Some (length v)
-  read x m some is_length fits =
-      let same : x ≡ count (length v) = let e = sym some ∙ stepped.is in cc in
-      length_is x (length v) (omega (arith, few a v)) same m is_length
-
-pub list_walks : {a : Ty} {k k' : Option ℕ} {cs cs₁ cs₂ : List Int} {w w₁ w₂ : Writer} {x : Int} {n : ℕ} {r : Option (Unit {0})} → Past k 1 k'
-    → Steps k cs w (Some x) cs₁ w₁ → IsLength x (Some n) → WalksAll a n k' cs₁ w₁ r cs₂ w₂ → Walks (list a) k cs w r cs₂ w₂
-list_walks {a} {k' = k'} {x = x} {n = n} past first is_length all = record {
+pub list_walks : {a : Ty} {k k' : Option ℕ} {cs cs₁ cs₂ : List Int} {w w₁ w₂ : Writer} {x y : Int} {n : ℕ} {r : Option (Unit {0})} → Past k 1 k'
+    → Some x ≡ slice_get cs 0 → IsLength x (Some n) → Steps k cs w (Some y) cs₁ w₁ → WalksAll a n k' cs₁ w₁ r cs₂ w₂ → Walks (list a) k cs w r cs₂ w₂
+list_walks {a} {k' = k'} {x = x} {n = n} past looked is_length first all = record {
   goes = λ v rest small fits is h.
-      let long : length v ≡ n = let e = read a past first v rest is h x (Some n) refl is_length fits in cc in
+      let long : length v ≡ n = let e = read a v rest is x (Some n) looked is_length fits in cc in
       goes_then (wanted k' (vectors a v)) (split a past first v rest is h) h (λ room. stepped a past first v rest is h)
       (inr all) (λ all. all.goes v rest long (omega arith) (omega arith));
 }
 
-pub list_uncounted : {a : Ty} {k k' : Option ℕ} {cs cs₁ : List Int} {w w₁ : Writer} {x : Int} {r : Option (Unit {0})} → Past k 1 k'
-    → Steps k cs w (Some x) cs₁ w₁ → IsLength x None → Walks (list a) k cs w r cs₁ w₁
-list_uncounted {a} {x = x} past first is_length = record {
+pub list_empty : {a : Ty} {k : Option ℕ} {cs cs' : List Int} {w w' : Writer} {r : Option (Unit {0})} → None ≡ slice_get cs 0
+    → Walks (list a) k cs w r cs' w'
+list_empty {a} looked = record { goes = λ v rest small fits is h. let e = looked ∙ begins a v rest is in absurd (cc) }
+
+pub list_uncounted : {a : Ty} {k : Option ℕ} {cs cs' : List Int} {w w' : Writer} {x : Int} {r : Option (Unit {0})} → Some x ≡ slice_get cs 0
+    → IsLength x None → Walks (list a) k cs w r cs' w'
+list_uncounted {a} {x = x} looked is_length = record {
   goes = λ v rest small fits is h.
-      let e = read a past first v rest is h x None refl is_length fits in absurd (cc);
+      let e = read a v rest is x None looked is_length fits in absurd (cc);
 }
 
 pub list_stops : {a : Ty} {k k' : Option ℕ} {cs cs₁ : List Int} {w w₁ : Writer} {r : Option (Unit {0})} → Past k 1 k' → Steps k cs w None cs₁ w₁

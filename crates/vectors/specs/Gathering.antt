@@ -8,7 +8,7 @@ use Rattle.lang.specs.Values.{Val, size, sum_by}
 use Rattle.lang.specs.Layout.{cells, vectors}
 use Rattle.vectors.specs.declared.span.Span.{Span}
 use Rattle.vectors.specs.declared.writer.Writer.{Writer}
-use Rattle.vectors.specs.Placing.{entries, Holds}
+use Rattle.vectors.specs.Placing.{extent, entries, Holds}
 use Rattle.vectors.specs.Vectors.{Countable}
 use Rattle.vectors.specs.Writing.{room, Goes}
 
@@ -33,11 +33,11 @@ pub record Gathers (t : Ty) (us : List (List Int)) (w : Writer) (r : Option (Uni
   pub goes : (v : Val t) (vs : List (Val t)) (others : List (List Int)) → parts t ≤ 8 → Countable (size t v) → us ≡ vectors t (v ∷ vs) ++ others
       → length (cells t v) ≤ length (room w) → Goes tt (vectors t vs ++ others) (cells t v) w r us' w'
 
--- the vectors of the spans, if there is room for them
+-- the vectors of the spans, if there is room for all that the spans ask for
 abbrev pub Found : List Int → List Span → ℕ → Option (ArrayVec (Bor (List Int))) → Type 0
 Found ints spans n r =
     let vs = map (entries ints) spans in
-    MatchOption r ((8 < length spans) ⊎ (n < sum_by length vs)) (λ f. (left f.items ≡ vs) × (sum_by length vs ≤ n))
+    MatchOption r ((8 < length spans) ⊎ (n < sum_by extent spans)) (λ f. (left f.items ≡ vs) × (sum_by extent spans ≤ n) × (sum_by length vs ≤ n))
 
 -- the cells of v were written, and what stands behind them is as it was; refused only for too many parts or too little room
 abbrev pub Joined : (t : Ty) → Val t → List Int → Option ℕ → List Int → Type 0

@@ -49,7 +49,7 @@ fn gather_value(t: TypeRef<'_>, vectors: &mut [&[Int]], cells: &mut Writer<'_>) 
     }
 }
 
-// The vectors that stand there, unless they are more than 8 or have more entries than there is room for.
+// The vectors that stand there, unless they are more than 8 or ask for more entries than there is room for.
 fn vectors_at<'a>(
     ints: &'a [Int],
     spans: &[Span],
@@ -60,7 +60,7 @@ fn vectors_at<'a>(
     let mut vectors = ArrayVec::new();
     for span in spans {
         let vector = span.entries(ints);
-        room = room.checked_sub(vector.len())?;
+        room = room.checked_sub(span.extent())?;
         vectors.try_push(vector).ok()?;
     }
     Some(vectors)

@@ -51,7 +51,8 @@ fn walk_value(
         }
         Shape::List(element) => {
             let behind = past(wanted, 1);
-            let count = length_of(step(wanted, cells, entries)?)?;
+            let count = length_of(*cells.first()?)?;
+            step(wanted, cells, entries)?;
             for _ in 0..count {
                 walk_value(element, behind, cells, entries)?;
             }

@@ -3,7 +3,7 @@ use Rattle.lang.specs.Layout.{flag}
 use Rattle.vectors.specs.Walking.{Walks}
 use Rattle.vectors.proofs.Shapes.{int_or_bool}
 use Rattle.vectors.proofs.Writing.{stuck, answered}
-use Rattle.vectors.proofs.Walking.{walks_at, pair_walks, list_walks, list_uncounted, list_stops, walks_none, walks_more}
+use Rattle.vectors.proofs.Walking.{walks_at, pair_walks, list_walks, list_empty, list_uncounted, list_stops, walks_none, walks_more}
 use Rattle.vectors.proofs.spread.+walk_value.Goals as goal
 
 pub returns-in_err-step-in-Int-clause-walks : goal.returns-in_err-step-in-Int-clause-walks
@@ -28,17 +28,20 @@ pub returns-in_ok-walk_value-in-Pair-clause-walks : goal.returns-in_ok-walk_valu
 returns-in_ok-walk_value-in-Pair-clause-walks t c =
     walks_at c.in-Pair.ensures.2 (pair_walks c.parts.ensures c.past-behind.ensures c.in_ok-walk_value-in-Pair.ensures.walks (inr c.walk_value-in-Pair.ensures.walks))
 
+pub returns-in_err-first-in-List-clause-walks : goal.returns-in_err-first-in-List-clause-walks
+returns-in_err-first-in-List-clause-walks t c = walks_at c.in-List.ensures.1 (list_empty c.in_err-first-in-List.ensures.value)
+
+pub returns-in_err-count-in-List-clause-walks : goal.returns-in_err-count-in-List-clause-walks
+returns-in_err-count-in-List-clause-walks t c =
+    walks_at c.in-List.ensures.1 (list_uncounted c.in_ok-first-in-List.ensures.value c.in_err-count-in-List.ensures)
+
 pub returns-in_err-step-in-List-clause-walks : goal.returns-in_err-step-in-List-clause-walks
 returns-in_err-step-in-List-clause-walks t c =
     walks_at c.in-List.ensures.1 (list_stops c.past-behind-in-List.ensures c.in_err-step-in-List.ensures.steps)
 
-pub returns-in_err-count-in-List-clause-walks : goal.returns-in_err-count-in-List-clause-walks
-returns-in_err-count-in-List-clause-walks t c =
-    walks_at c.in-List.ensures.1 (list_uncounted c.past-behind-in-List.ensures c.in_ok-step-in-List.ensures.steps c.in_err-count-in-List.ensures)
-
 pub returns-in_err-walk_value-in-List-clause-walks : goal.returns-in_err-walk_value-in-List-clause-walks
 returns-in_err-walk_value-in-List-clause-walks t c = walks_at c.in-List.ensures.1 (list_walks c.past-behind-in-List.ensures
-    c.in_ok-step-in-List.ensures.steps c.in_ok-count-in-List.ensures
+    c.in_ok-first-in-List.ensures.value c.in_ok-count-in-List.ensures c.in_ok-step-in-List.ensures.steps
     (c.loop.invariant.rest _ _ _ (walks_more (c.in_ok-count-in-List.count - (c.loop.counter + 1)) (omega arith) c.in_err-walk_value-in-List.ensures.walks (inl refl))))
 
 pub loop-preserved : goal.loop-preserved
@@ -49,4 +52,4 @@ loop-preserved t c = record {
 
 pub returns-after-loop-clause-walks : goal.returns-after-loop-clause-walks
 returns-after-loop-clause-walks t c = walks_at c.in-List.ensures.1 (list_walks c.past-behind-in-List.ensures
-    c.in_ok-step-in-List.ensures.steps c.in_ok-count-in-List.ensures (c.loop.invariant.rest _ _ _ (walks_none (omega arith))))
+    c.in_ok-first-in-List.ensures.value c.in_ok-count-in-List.ensures c.in_ok-step-in-List.ensures.steps (c.loop.invariant.rest _ _ _ (walks_none (omega arith))))
