@@ -4,6 +4,7 @@ pub mod Follow
 pub mod Going
 pub mod Starting
 pub mod Opening
+pub mod Codes
 pub mod Shapes
 pub mod Growing
 pub mod Alone

@@ -76,7 +76,9 @@ impl Parser<'_> {
         Parser::chain(self, Rank::Sums)
     }
 
+    // Inlined, which spares each nesting a call.
     #[cycle(expressions)]
+    #[inline(always)]
     fn chain(&mut self, rank: Rank) -> Result<(), ParseFault>
         ensures { Passes (chains (chain_of rank)) result self.old self.new }
     {
