@@ -1,13 +1,12 @@
 -- Forks and the uses since.
 use Rattle.std.proofs.Common.{◌≡◌, ℕ, suc, ◌-◌, ◌<◌, ◌≤◌, Bool, false, List, [], ◌∷◌, ◌++◌, map, reverse, length, get_or, take, drop, replicate, vec_len, sym, refl, ap, ◌∙◌, subst, arith}
-use Rattle.std.proofs.lemmas.List.{drop-append-le, drop_all, drop-map, get_or-reverse, length-reverse, map_push}
-use Rattle.judging.specs.Judging.{Fork, forked, joined, no_fork, with_forks, used_at, uses_at, noted, pushed}
-use Rattle.typing.specs.Codes.{type_at, binding_of, fork_of, replay, note_of, holding}
+use Rattle.std.proofs.lemmas.List.{drop-append-le, drop_all, drop-map, get_or-reverse, length-reverse}
+use Rattle.judging.specs.Judging.{Fork, forked, joined, no_fork, with_forks, used_at, uses_at}
+use Rattle.typing.specs.Codes.{binding_of, fork_of, replay, holding}
 use Rattle.typing.specs.Holding.{held, LastFork}
 use Rattle.typing.specs.declared.checker.Checker.{Checker}
 use Rattle.typing.specs.declared.parts.Fork.{Fork as Entry}
 use Rattle.typing.specs.declared.parts.Use.{Use}
-use Rattle.typing.specs.declared.parts.Note.{Note}
 use Rattle.std.specs.List.{slice_get}
 use Rattle.std.specs.Option.{unwrap_or}
 use Rattle.std.specs.Prelude.{Option}
@@ -44,9 +43,9 @@ module _ (c : Checker) where
       let u : (get_or (fs c) (length (fs c) - 1 - i) d).start < suc (vec_len c.uses) = under_at (λ f. f.start) _ (fs c) (length (fs c) - 1 - i) d c.logged.0 k in
       subst (λ (x : Entry). x.start ≤ length (es c)) (sym e) (omega (arith, u))
 
-  pub use_held : (es' : List Use) (ns' : List Note) (st' : List ℕ) (e : Use) (n : Note) → es' ≡ es c ++ e ∷ [] → ns' ≡ ns c ++ n ∷ [] → st' ≡ st c ++ n.code ∷ [] → e.depth ≡ length (sc c) → holding (ts c) (sc c) st' (fs c) es' ns' c.weight ≡ noted (note_of (ts c) n ∷ []) (pushed (type_at (ts c) n.code) (with_forks (uses_at (length (held c).scope) e.index (held c).forks) (held c)))
+  pub use_held : (es' : List Use) (e : Use) → es' ≡ es c ++ e ∷ [] → e.depth ≡ length (sc c) → holding (ts c) (sc c) (st c) (fs c) es' (ns c) c.weight ≡ with_forks (uses_at (length (held c).scope) e.index (held c).forks) (held c)
   unfolding held
-  use_held es' ns' st' e n ee en et ed = rw (et, reverse_push (st c) n.code, en, map_push (note_of (ts c)) (ns c) n, ee, uses_push (es c) e (reverse (fs c)) starts_in, ed, scope_long c)
+  use_held es' e ee ed = rw (ee, uses_push (es c) e (reverse (fs c)) starts_in, ed, scope_long c)
 
   -- the innermost
   pub last_held : (o : Option Entry) (d : Entry) → o ≡ slice_get (fs c) (length (fs c) - 1) → d ≡ record { filtered = false; depth = 0; start = vec_len c.uses } → LastFork c (unwrap_or o d)

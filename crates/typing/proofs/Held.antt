@@ -42,6 +42,10 @@ module _ (c : Checker) where
   unfolding held
   note-held ns' n e = rw (e, map_push (note_of ts) ns n)
 
+  pub show_held : (ns' : List Note) (st' : List ℕ) (n : Note) → ns' ≡ ns ++ n ∷ [] → st' ≡ st ++ n.code ∷ [] → holding ts sc st' fs es ns' c.weight ≡ noted (note_of ts n ∷ []) (pushed (type_at ts n.code) (held c))
+  unfolding held
+  show_held ns' st' n en et = rw (et, reverse_push st n.code, en, map_push (note_of ts) ns n)
+
   pub enter_held : (sc' : List Binding) (b : Binding) → sc' ≡ sc ++ b ∷ [] → holding ts sc' st fs es ns c.weight ≡ entered b.name (type_at ts b.code) (held c)
   unfolding held
   enter_held sc' b e = rw (e, reverse_push sc b)

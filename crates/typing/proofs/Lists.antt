@@ -2,7 +2,7 @@
 use Rattle.std.proofs.Common.{◌≡◌, ℕ, suc, ◌+◌, ◌-◌, ◌<◌, ◌≤◌, ◌⊎◌, List, [], ◌∷◌, ◌++◌, map, reverse, length, get_or, take, drop, sym, refl, ap, ◌∙◌, subst, inl, inr, arith, length-drop, length-take}
 use lib.ListN.{length-reverse, length-map}
 use Rattle.std.proofs.Math.ListN.{get_or-map as get_or-map-default}
-use Rattle.std.proofs.lemmas.List.{reverse-append, take-append-drop, drop_at, drop_all, get_or_append_left, get_or_push, get_or_past, get_or-drop, get_or-take, get_or-map, get_or-reverse, length_push, map_push, take-map}
+use Rattle.std.proofs.lemmas.List.{reverse-append, take-append-drop, drop_at, drop_all, get_or_append_left, get_or_push, get_or_past, get_or_default, get_or-drop, get_or-take, get_or-map, get_or-reverse, length_push, map_push, take-map}
 use Rattle.std.proofs.lemmas.Bool.{cases_lt}
 use Rattle.std.specs.List.{slice_get}
 use Rattle.std.specs.Option.{unwrap_or}
@@ -81,6 +81,12 @@ pub under_last : {X : Type 0} (f : X → ℕ) (n : ℕ) (xs : List X) (d : X) �
 under_last f n xs d h l = elim (cases_lt 0 (length xs)) [
   | inl m ↦ let i : length xs - 1 - 0 < length xs = omega arith in subst (λ x. f x < n) (sym (get_or-reverse xs 0 d m)) (under_at f n xs (length xs - 1 - 0) d h i)
   | inr g ↦ subst (λ x. f x < n) (sym (get_or_past (reverse xs) 0 d (omega (arith, length-reverse xs, g)))) l
+]
+
+pub under_top : (n : ℕ) (xs : List ℕ) (k d : ℕ) → Under n xs → d < n → get_or (reverse xs) k d < n
+under_top n xs k d h l = elim (cases_lt k (length xs)) [
+  | inl m ↦ let i : length xs - 1 - k < length xs = omega arith in subst (λ v. v < n) (sym (get_or-reverse xs k d m)) (subst (λ v. v < n) (get_or_default xs (length xs - 1 - k) 0 d i) (h (length xs - 1 - k)))
+  | inr g ↦ subst (λ v. v < n) (sym (get_or_past (reverse xs) k d (omega (arith, length-reverse xs, g)))) l
 ]
 
 pub length-held : {X Y : Type 0} (f : X → Y) (xs : List X) → length (map f (reverse xs)) ≡ length xs

@@ -1,6 +1,7 @@
 -- What the entries that the checker keeps stand for.
 use Rattle.std.specs.Prelude.{ℕ, suc, ◌+◌, ◌<◌, ◌≤◌, Bool, false, List, [], ◌∷◌, map, reverse, drop, replicate, slice_index, slice_index_or}
 use Rattle.types.specs.Types.{Ty, int}
+use Rattle.types.specs.Entries.{ty_of}
 use Rattle.lang.specs.Scope.{Binding, bound}
 use Rattle.judging.specs.Notes.{Note}
 use Rattle.judging.specs.Judging.{State, Fork, used_at}
@@ -8,6 +9,8 @@ use Rattle.typing.specs.declared.parts.Binding.{Binding as BindingEntry}
 use Rattle.typing.specs.declared.parts.Fork.{Fork as ForkEntry}
 use Rattle.typing.specs.declared.parts.Use.{Use}
 use Rattle.typing.specs.declared.parts.Note.{Note as NoteEntry}
+use Rattle.typing.specs.declared.given.Given.{Given}
+use Rattle.typing.specs.declared.given.Given.TheVariants as given
 
 -- all numbers of a list are below n; past its end one reads 0
 abbrev pub Under : ℕ → List ℕ → Type 0
@@ -43,6 +46,11 @@ Rooms a b c = (1025 ≤ a) × (1025 ≤ b) × (1025 ≤ c)
 -- codes by the types of the table
 abbrev pub type_at : List Ty → ℕ → Ty
 type_at ts i = slice_index_or ts i int
+
+-- the type that is given by its code or by what it is made of
+abbrev pub given_type : List Ty → Given → Ty
+given_type ts (given.Code i) = type_at ts i
+given_type ts (given.Node n) = ty_of ts n
 
 abbrev pub binding_of : List Ty → BindingEntry → Binding
 binding_of ts b = bound b.name (type_at ts b.code)

@@ -2,19 +2,19 @@
 use Rattle.std.specs.Prelude.{◌≡◌, ℕ, ◌+◌, ◌^◌, ◌<◌, ◌≤◌, Bool, cond, List, length, vec_items, vec_len, Result, MatchResult}
 use Rattle.std.specs.declared.result.Result.TheVariants.{Ok, Err}
 use Rattle.types.specs.Types.{Ty, bool}
-use Rattle.types.specs.Entries.{ty_of, counted}
+use Rattle.types.specs.Entries.{counted}
 use Rattle.types.specs.Table.{types_in, type_of}
-use Rattle.types.specs.declared.node.TypeNode.{TypeNode}
 use Rattle.grammar.specs.declared.occurrence.What.{What}
 use Rattle.lang.specs.Outcome.{Out, ok, refused}
 use Rattle.lang.specs.Rules.{Verdict, gives, unfit, large}
 use Rattle.typing.specs.Faults.{of_check, misfit_at}
 use Rattle.typing.specs.declared.fault.CheckFault.{CheckFault}
+use Rattle.typing.specs.declared.given.Given.{Given}
 use Rattle.typing.specs.declared.misfit.Misfit.{Misfit}
 use Rattle.typing.specs.declared.misfit.Misfit.TheVariants.{Unfit, TooLarge}
 use Rattle.judging.specs.Notes.{note}
 use Rattle.judging.specs.Judging.{State, fork, top, popped, pushed, noted, weighing, only, step}
-use Rattle.typing.specs.Codes.{holding, fork_of}
+use Rattle.typing.specs.Codes.{given_type, holding, fork_of}
 use Rattle.typing.specs.declared.parts.Fork.{Fork as ForkEntry}
 use Rattle.typing.specs.declared.checker.Checker.{Checker}
 
@@ -61,9 +61,9 @@ outcome (gives t o) = Ok t
 outcome unfit = Err Unfit
 outcome large = Err TooLarge
 
--- a rule gives the type that a node is, or refuses
-abbrev pub Ruled : {ts : List Ty} → Verdict ts → Checker → Result TypeNode Misfit → Type 0
-Ruled v c r = MatchResult r (λ n. outcome v ≡ Ok (ty_of (known c) n)) (λ m. outcome v ≡ Err m)
+-- a rule gives this type, or refuses
+abbrev pub Ruled : {ts : List Ty} → Verdict ts → Checker → Result Given Misfit → Type 0
+Ruled v c r = MatchResult r (λ g. outcome v ≡ Ok (given_type (known c) g)) (λ m. outcome v ≡ Err m)
 
 -- a node of this type over the k uppermost, which have n parts
 abbrev pub over : ℕ → ℕ → Ty → State → State

@@ -120,6 +120,14 @@ impl TypeTable {
         self.entry(code).count
     }
 
+    // The same, of a code that the table has.
+    pub(crate) fn parts_at(&self, code: usize) -> usize
+        requires { code < length (types_in self.now) }
+        ensures { result ≡ counted (type_of self.now code) }
+    {
+        self.entries[code].count
+    }
+
     // How many parts the type that a node is has, or a million if it has more.
     pub fn count(&self, node: TypeNode) -> usize
         ensures { result ≡ counted (ty_of (types_in self.now) node) }
@@ -145,10 +153,15 @@ impl TypeTable {
         ensures decides { Decides result (type_of self.now code ≡ ty_of (types_in self.now) node) }
         ensures agrees { Agrees result (type_of self.now code) (ty_of (types_in self.now) node) }
     {
-        self.node(code) == self.known_node(node)
+        match node {
+            TypeNode::Int => self.same(code, self.int()),
+            TypeNode::Bool => self.same(code, self.bool()),
+            _ => self.node(code) == self.known_node(node),
+        }
     }
 
     // The code of the type that a node is. The type is added if it is not there.
+    #[inline(always)]
     pub fn intern(&mut self, node: TypeNode) -> usize
         requires { length (types_in self.old) < 1100 }
         ensures { Interned (types_in self.old) (ty_of (types_in self.old) node) (types_in self.new) result }

@@ -47,7 +47,7 @@ impl<'a> TypeRef<'a> {
     pub fn parts(self) -> usize
         ensures { result ≡ counted (meant self.entry) }
     {
-        self.table.parts(self.code)
+        self.table.parts_at(self.code)
     }
 
     // The elements' type, if it is a list.

@@ -6,6 +6,7 @@ ghost use Rattle.typing.specs.Codes.{type_at};
 ghost use Rattle.typing.specs.Holding.{held, known, Ruled};
 
 use super::super::elements::one_type;
+use super::super::given::Given;
 use super::super::misfit::{Misfit, ensure};
 use super::{Checker, MAX_PARTS};
 use types::node::TypeNode;
@@ -20,7 +21,7 @@ impl Checker {
     }
 
     // The type of a list of the n uppermost.
-    pub(super) fn list_type(&self, n: usize) -> Result<TypeNode, Misfit>
+    pub(super) fn list_type(&self, n: usize) -> Result<Given, Misfit>
         ensures { Ruled (list_rule (operands n (held self.now))) self.now result }
     {
         let elements = self.operands(n);

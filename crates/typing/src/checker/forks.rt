@@ -49,16 +49,15 @@ impl Checker {
         });
     }
 
-    // A variable is pushed and noted, and all forks that it stands outside of have used it now.
+    // A variable stands uppermost and is noted, and all forks that it stands outside of have used it now.
     pub(super) fn note_use(&mut self, note: Note)
         requires { Room (held self.old) }
         ensures { held self.new ≡ noted (record { type = type_in self.old note.code; index = note.index } ∷ []) (pushed (type_in self.old note.code) (with_forks (uses_at (length (held self.old).scope) note.index (held self.old).forks) (held self.old))) }
     {
-        let Note { code, index } = note;
-        let code = self.types.known(code);
-        let depth = self.scope.len();
-        self.notes.push_reserved(Note { code, index });
-        self.uses.push_reserved(Use { depth, index });
-        self.stack.push_reserved(code);
+        self.show(note);
+        self.uses.push_reserved(Use {
+            depth: self.scope.len(),
+            index: note.index,
+        });
     }
 }

@@ -6,6 +6,7 @@ ghost use Rattle.judging.specs.Judging.{fork, popped};
 ghost use Rattle.typing.specs.Faults.{misfit_at};
 ghost use Rattle.typing.specs.Holding.{held, Room, Stepped, filter_of};
 
+use super::super::given::Given;
 use super::super::misfit::{Misfit, ensure};
 use super::{Checker, MAX_PARTS};
 use tokens::kind::Name;
@@ -30,7 +31,7 @@ impl Checker {
     {
         let list = self.top(0);
         let element = self.element(list)?;
-        let size = self.types.parts(list);
+        let size = self.operand(0).parts();
         self.open();
         self.enter(name, element);
         self.mark();
@@ -46,8 +47,8 @@ impl Checker {
         let used = self.parts_used(0);
         let a = self.top(1);
         let b = self.top(0);
-        self.expect(b, self.made_of(a))?;
-        let size = self.types.parts(a);
+        ensure(self.types.same(b, a), Misfit::Unfit)?;
+        let size = self.operand(1).parts();
         self.pop();
         self.close();
         self.mark();
@@ -75,7 +76,7 @@ impl Checker {
         let count = self.body_and_filter()?;
         let list = TypeNode::List(self.top(0));
         ensure(self.types.count(list) <= MAX_PARTS, Misfit::TooLarge)?;
-        self.node(count, used, list);
+        self.node(count, used, Given::Node(list));
         self.leave();
         self.close();
         Ok(())

@@ -3,6 +3,7 @@ ghost use Rattle.judging.specs.Judging.{step};
 ghost use Rattle.typing.specs.Holding.{held, Room, Judged, Stepped};
 
 use super::super::fault::CheckFault;
+use super::super::given::Given;
 use super::super::misfit::Misfit;
 use super::Checker;
 use super::nodes::{OverOne, OverTwo};
@@ -14,6 +15,7 @@ impl Checker {
         requires { Room (held self.old) }
         ensures { Stepped what (held self.old) self.new result }
     {
+        let (int, bool) = (self.types.int(), self.types.bool());
         match what {
             What::Variable(name) => self.variable(name),
             What::IfFork => self.if_fork(),
@@ -31,17 +33,20 @@ impl Checker {
             What::Empty => self.empty(),
             What::Parameter(name) => self.parameter(name),
             What::Result => self.result(),
-            What::Number(_) => Ok(self.leaf(TypeNode::Int)),
-            What::True | What::False => Ok(self.leaf(TypeNode::Bool)),
+            What::Number(_) => Ok(self.leaf(int)),
+            What::True | What::False => Ok(self.leaf(bool)),
             What::Bind(name) => Ok(self.bind(name)),
             What::LetEnd => Ok(self.let_end()),
             What::IfElse => Ok(self.mark()),
             What::EachFilter => Ok(self.each_filter()),
             What::Group => Ok(self.group()),
-            What::TypeInt => Ok(self.put(0, TypeNode::Int)),
-            What::TypeBool => Ok(self.put(0, TypeNode::Bool)),
-            What::TypePair => Ok(self.put(2, TypeNode::Pair(self.top(1), self.top(0)))),
-            What::TypeList => Ok(self.put(1, TypeNode::List(self.top(0)))),
+            What::TypeInt => Ok(self.put(0, Given::Code(int))),
+            What::TypeBool => Ok(self.put(0, Given::Code(bool))),
+            What::TypePair => {
+                let pair = TypeNode::Pair(self.top(1), self.top(0));
+                Ok(self.put(2, Given::Node(pair)))
+            }
+            What::TypeList => Ok(self.put(1, Given::Node(TypeNode::List(self.top(0))))),
         }
     }
 

@@ -1,21 +1,20 @@
 // Occurrences that push a type, or note the one that stands uppermost.
 ghost use Rattle.std.specs.Prelude.{◌≡◌};
 ghost use Rattle.lang.specs.Outcome.{ok};
-ghost use Rattle.types.specs.Entries.{ty_of};
 ghost use Rattle.grammar.specs.declared.occurrence.What.{What};
 ghost use Rattle.judging.specs.Judging.{leaf as leaf_of, step};
-ghost use Rattle.typing.specs.Holding.{held, known, Room};
+ghost use Rattle.typing.specs.Holding.{held, type_in, Room};
 
+use super::super::parts::Note;
 use super::Checker;
-use types::node::TypeNode;
 
 impl Checker {
     // A number or a truth value.
-    pub(super) fn leaf(&mut self, node: TypeNode)
+    pub(super) fn leaf(&mut self, code: usize)
         requires { Room (held self.old) }
-        ensures { leaf_of (ty_of (known self.old) node) (held self.old) ≡ ok (held self.new) }
+        ensures { leaf_of (type_in self.old code) (held self.old) ≡ ok (held self.new) }
     {
-        self.put(0, node);
+        self.show(Note { code, index: 0 });
         self.weigh(1);
     }
 

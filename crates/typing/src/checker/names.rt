@@ -33,7 +33,7 @@ impl Checker {
     fn header(&self) -> Result<(), Misfit>
         ensures { Placed (λ p. header_of p (held self.now)) self.now result }
     {
-        ensure(self.types.parts(self.top(0)) <= MAX_PARTS, Misfit::TooLarge)
+        ensure(self.operand(0).parts() <= MAX_PARTS, Misfit::TooLarge)
     }
 
     pub(super) fn parameter(&mut self, name: Name) -> Result<(), Misfit>

@@ -28,26 +28,28 @@ pub enum OverTwo {
 }
 
 impl Checker {
+    #[inline(always)]
     pub(super) fn over_one(&mut self, op: OverOne) -> Result<(), Misfit>
         requires { Room (held self.old) }
         ensures { Placed (λ p. one p (one_rule op) (held self.old)) self.new result }
     {
         let a = self.top(0);
-        let node = self.one_type(op, a)?;
-        let parts = self.types.parts(a);
-        self.node(1, parts, node);
+        let given = self.one_type(op, a)?;
+        let parts = self.operand(0).parts();
+        self.node(1, parts, given);
         Ok(())
     }
 
+    #[inline(always)]
     pub(super) fn over_two(&mut self, op: OverTwo) -> Result<(), Misfit>
         requires { Room (held self.old) }
         ensures { Placed (λ p. two p (two_rule op) (held self.old)) self.new result }
     {
         let a = self.top(1);
         let b = self.top(0);
-        let node = self.two_type(op, a, b)?;
-        let parts = self.types.parts(a) + self.types.parts(b);
-        self.node(2, parts, node);
+        let given = self.two_type(op, a, b)?;
+        let parts = self.operand(1).parts() + self.operand(0).parts();
+        self.node(2, parts, given);
         Ok(())
     }
 

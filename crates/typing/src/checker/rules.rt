@@ -1,34 +1,24 @@
 // What the rules ask of types, and the types that they give.
 #![tactic(auto, using(crate::proofs::Rules::unfits))]
 
-ghost use Rattle.std.specs.Prelude.{◌≡◌, cond, nat_le, List, Result, MatchResult};
+ghost use Rattle.std.specs.Prelude.{◌≡◌, ◌<◌, length, cond, nat_le, Result, MatchResult};
 ghost use Rattle.std.specs.declared.result.Result.TheVariants.{Ok, Err};
 ghost use Rattle.std.proofs.Math.Option.{none};
-ghost use Rattle.types.specs.Types.{Ty, list, pair, parts, same, NotList, NotPair};
+ghost use Rattle.types.specs.Types.{list, pair, parts, same, NotList, NotPair};
 ghost use Rattle.types.specs.Entries.{ty_of};
 ghost use Rattle.lang.specs.Expr.{answers, joined};
 ghost use Rattle.lang.specs.Rules.{infix_rule, index_rule, part_rule, unary_rule, limit};
 ghost use Rattle.typing.specs.Nodes.{one_rule, two_rule};
 ghost use Rattle.typing.specs.Holding.{known, type_in, Ruled};
+ghost use Rattle.typing.specs.declared.given.Given.TheVariants as given;
 ghost use Rattle.typing.specs.declared.misfit.Misfit.TheVariants.{Unfit, TooLarge};
 
+use super::super::given::Given;
 use super::super::misfit::{Misfit, ensure};
 use super::nodes::{OverOne, OverTwo};
 use super::{Checker, MAX_PARTS};
 use grammar::occurrence::{Infix, Operation, Unary};
 use types::node::TypeNode;
-
-// The type that an infix sign answers.
-fn answer(op: Infix) -> TypeNode
-    ensures { (ts : List Ty) → ty_of ts result ≡ answers op }
-{
-    match op {
-        Infix::Add | Infix::Subtract | Infix::Multiply | Infix::Divide | Infix::Remainder => {
-            TypeNode::Int
-        }
-        Infix::Same | Infix::Less => TypeNode::Bool,
-    }
-}
 
 impl Checker {
     // Whether it is the type that is wanted.
@@ -58,39 +48,45 @@ impl Checker {
         }
     }
 
-    // What a type is made of.
-    pub(super) fn made_of(&self, code: usize) -> TypeNode
-        ensures { ty_of (known self.now) result ≡ type_in self.now code }
-    {
-        self.types.node(code)
-    }
-
     // Whether a type that is made is small enough.
-    pub(super) fn limited(&self, node: TypeNode) -> Result<TypeNode, Misfit>
-        ensures { result ≡ cond (nat_le (parts (ty_of (known self.now) node)) limit) (Ok node) (Err TooLarge) }
+    pub(super) fn limited(&self, node: TypeNode) -> Result<Given, Misfit>
+        ensures { result ≡ cond (nat_le (parts (ty_of (known self.now) node)) limit) (Ok (given.Node node)) (Err TooLarge) }
     {
         ensure(self.types.count(node) <= MAX_PARTS, Misfit::TooLarge)?;
-        Ok(node)
+        Ok(Given::Node(node))
     }
 
-    fn infix_type(&self, op: Infix, a: usize, b: usize) -> Result<TypeNode, Misfit>
+    // The type that an infix sign answers.
+    fn answer(&self, op: Infix) -> usize
+        ensures within { result < length (known self.now) }
+        ensures is { type_in self.now result ≡ answers op }
+    {
+        match op {
+            Infix::Add | Infix::Subtract | Infix::Multiply | Infix::Divide | Infix::Remainder => {
+                self.types.int()
+            }
+            Infix::Same | Infix::Less => self.types.bool(),
+        }
+    }
+
+    fn infix_type(&self, op: Infix, a: usize, b: usize) -> Result<Given, Misfit>
         ensures { Ruled (infix_rule op (type_in self.now a) (type_in self.now b)) self.now result }
     {
         self.expect(a, TypeNode::Int)?;
         self.expect(b, TypeNode::Int)?;
-        Ok(answer(op))
+        Ok(Given::Code(self.answer(op)))
     }
 
-    fn index_type(&self, a: usize, b: usize) -> Result<TypeNode, Misfit>
+    fn index_type(&self, a: usize, b: usize) -> Result<Given, Misfit>
         ensures { Ruled (index_rule (type_in self.now a) (type_in self.now b)) self.now result }
     {
         let element = self.element(a)?;
         self.expect(b, TypeNode::Int)?;
-        Ok(self.made_of(element))
+        Ok(Given::Code(element))
     }
 
     // A list, and the lengths that it is cut into.
-    fn part_type(&self, a: usize, b: usize) -> Result<TypeNode, Misfit>
+    fn part_type(&self, a: usize, b: usize) -> Result<Given, Misfit>
         ensures { Ruled (part_rule (type_in self.now a) (type_in self.now b)) self.now result }
     {
         self.element(a)?;
@@ -98,30 +94,30 @@ impl Checker {
         self.limited(TypeNode::List(a))
     }
 
-    fn unary_type(&self, op: Unary, a: usize) -> Result<TypeNode, Misfit>
+    fn unary_type(&self, op: Unary, a: usize) -> Result<Given, Misfit>
         ensures { Ruled (unary_rule op (type_in self.now a)) self.now result }
     {
         match op {
             Unary::Fst => {
                 let (left, _) = self.halves(a)?;
-                Ok(self.made_of(left))
+                Ok(Given::Code(left))
             }
             Unary::Snd => {
                 let (_, right) = self.halves(a)?;
-                Ok(self.made_of(right))
+                Ok(Given::Code(right))
             }
             Unary::Len => {
                 self.element(a)?;
-                Ok(TypeNode::Int)
+                Ok(Given::Code(self.types.int()))
             }
             Unary::Range => {
                 self.expect(a, TypeNode::Int)?;
-                Ok(TypeNode::List(a))
+                Ok(Given::Node(TypeNode::List(a)))
             }
             Unary::Flat => {
                 let inner = self.element(a)?;
                 self.element(inner)?;
-                Ok(self.made_of(inner))
+                Ok(Given::Code(inner))
             }
         }
     }
@@ -146,17 +142,20 @@ impl Checker {
         Ok(element)
     }
 
-    pub(super) fn one_type(&self, op: OverOne, a: usize) -> Result<TypeNode, Misfit>
+    pub(super) fn one_type(&self, op: OverOne, a: usize) -> Result<Given, Misfit>
         ensures { Ruled (one_rule op (type_in self.now a)) self.now result }
     {
         match op {
             OverOne::Apply(op) => self.unary_type(op, a),
-            OverOne::Scan(op) => Ok(TypeNode::List(self.folded(op, a)?)),
-            OverOne::Reduce(op) => Ok(self.made_of(self.folded(op, a)?)),
+            OverOne::Scan(op) => {
+                self.folded(op, a)?;
+                Ok(Given::Code(a))
+            }
+            OverOne::Reduce(op) => Ok(Given::Code(self.folded(op, a)?)),
         }
     }
 
-    pub(super) fn two_type(&self, op: OverTwo, a: usize, b: usize) -> Result<TypeNode, Misfit>
+    pub(super) fn two_type(&self, op: OverTwo, a: usize, b: usize) -> Result<Given, Misfit>
         ensures { Ruled (two_rule op (type_in self.now a) (type_in self.now b)) self.now result }
     {
         match op {

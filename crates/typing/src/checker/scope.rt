@@ -2,7 +2,7 @@
 ghost use Rattle.std.specs.Prelude.{◌≡◌, ◌<◌, length, MatchOption};
 ghost use Rattle.std.proofs.Math.Option.{none, some};
 ghost use Rattle.judging.specs.Judging.{entered, left, find as found_in};
-ghost use Rattle.typing.specs.Holding.{held, type_in};
+ghost use Rattle.typing.specs.Holding.{held, known, type_in};
 
 use super::super::parts::{Binding, Note};
 use super::Checker;
@@ -27,13 +27,12 @@ impl Checker {
 
     // The innermost variable of this name: its type's code, and how many stand inside it.
     pub(super) fn find(&self, name: Name) -> Option<Note>
-        ensures { MatchOption result (found_in (held self.now).scope name ≡ none) (λ x. found_in (held self.now).scope name ≡ some (x.index, type_in self.now x.code)) }
+        ensures { MatchOption result (found_in (held self.now).scope name ≡ none) (λ x. (x.code < length (known self.now)) × (found_in (held self.now).scope name ≡ some (x.index, type_in self.now x.code))) }
     {
-        let mut inner_first = self.scope.iter().rev().enumerate();
-        let (index, binding) = inner_first.find(|(_, binding)| binding.name == name)?;
+        let at = self.scope.iter().rposition(|binding| binding.name == name)?;
         Some(Note {
-            code: binding.code,
-            index,
+            code: self.scope[at].code,
+            index: self.scope.len() - 1 - at,
         })
     }
 }

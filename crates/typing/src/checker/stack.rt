@@ -1,13 +1,15 @@
 // The stack of types.
-ghost use Rattle.std.specs.Prelude.{◌≡◌, ◌+◌, ◌^◌, ◌<◌, ◌≤◌, length};
-ghost use Rattle.types.specs.Entries.{ty_of};
+ghost use Rattle.std.specs.Prelude.{◌≡◌, ◌+◌, ◌^◌, ◌<◌, ◌≤◌, [], ◌∷◌, length};
+ghost use Rattle.types.specs.TypeRefs.{meant};
 ghost use Rattle.judging.specs.Notes.{note as note_on};
 ghost use Rattle.judging.specs.Judging.{top as top_of, mark as mark_of, pushed, popped, noted, weighing};
+ghost use Rattle.typing.specs.Codes.{given_type};
 ghost use Rattle.typing.specs.Holding.{held, known, type_in, over, Room};
 
+use super::super::given::Given;
 use super::super::parts::Note;
 use super::Checker;
-use types::node::TypeNode;
+use types::type_ref::TypeRef;
 
 impl Checker {
     // The code that stands k below the top, or that of int.
@@ -15,12 +17,18 @@ impl Checker {
         ensures within { result < length (known self.now) }
         ensures is { type_in self.now result ≡ top_of (popped k (held self.now)) }
     {
-        self.stack
-            .iter()
-            .rev()
-            .nth(k)
-            .copied()
-            .unwrap_or(self.types.int())
+        let below = &self.stack.as_slice()[..self.stack.len().saturating_sub(k)];
+        below.last().copied().unwrap_or(self.types.int())
+    }
+
+    // The type that stands k below the top, or int.
+    pub(super) fn operand(&self, k: usize) -> TypeRef<'_>
+        ensures { meant result ≡ top_of (popped k (held self.now)) }
+    {
+        TypeRef {
+            table: &self.types,
+            code: self.top(k),
+        }
     }
 
     // The uppermost goes.
@@ -39,13 +47,26 @@ impl Checker {
         self.notes.push_reserved(Note { code, index: 0 });
     }
 
-    // The type that a node is takes the place of the k uppermost, and is noted.
-    pub(super) fn put(&mut self, k: usize, node: TypeNode)
+    // A type of the table stands uppermost, and is noted.
+    pub(super) fn show(&mut self, note: Note)
         requires { Room (held self.old) }
-        ensures { held self.new ≡ noted (note_on (ty_of (known self.old) node)) (pushed (ty_of (known self.old) node) (popped k (held self.old))) }
+        ensures holds { held self.new ≡ noted (record { type = type_in self.old note.code; index = note.index } ∷ []) (pushed (type_in self.old note.code) (held self.old)) }
+        ensures uses { self.new.uses ≡ self.old.uses }
+    {
+        let code = self.types.known(note.code);
+        self.notes.push_reserved(Note { code, ..note });
+        self.stack.push_reserved(code);
+    }
+
+    // A given type takes the place of the k uppermost, and is noted. Inlined, as all that adds to the table is, so that
+    // what the checker holds can stand in registers.
+    #[inline(always)]
+    pub(super) fn put(&mut self, k: usize, given: Given)
+        requires { Room (held self.old) }
+        ensures { held self.new ≡ noted (note_on (given_type (known self.old) given)) (pushed (given_type (known self.old) given) (popped k (held self.old))) }
     {
         let below = self.stack.len().saturating_sub(k);
-        let code = self.types.intern(node);
+        let code = given.intern(&mut self.types);
         self.notes.push_reserved(Note { code, index: 0 });
         self.stack.truncate(below);
         self.stack.push_reserved(code);
@@ -58,13 +79,14 @@ impl Checker {
         self.weight += n;
     }
 
-    // A node over the k uppermost, which have so many parts.
-    pub(super) fn node(&mut self, k: usize, parts: usize, node: TypeNode)
+    // A node of this type over the k uppermost, which have so many parts.
+    #[inline(always)]
+    pub(super) fn node(&mut self, k: usize, parts: usize, given: Given)
         requires { Room (held self.old) × (parts ≤ 2 ^ 40) }
-        ensures { held self.new ≡ over k parts (ty_of (known self.old) node) (held self.old) }
+        ensures { held self.new ≡ over k parts (given_type (known self.old) given) (held self.old) }
     {
-        let size = self.types.count(node);
-        self.put(k, node);
+        self.put(k, given);
+        let size = self.operand(0).parts();
         self.weigh(1 + parts + size);
     }
 }

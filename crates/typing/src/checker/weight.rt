@@ -16,10 +16,10 @@ fn parts_flagged(types: &TypeTable, scope: &[Binding], skip: usize, flags: &[boo
     ensures is { result ≡ parts_used (drop skip (map (binding_of (types_in types.now)) (reverse scope.now))) flags.now }
     ensures small { result ≤ 1000000 * length flags.now }
 {
-    scope
+    let outer = &scope[..scope.len().saturating_sub(skip)];
+    outer
         .iter()
         .rev()
-        .skip(skip)
         .zip(flags)
         .filter(|(_, used)| **used)
         .map(|(binding, _)| types.parts(binding.code))

@@ -1,24 +1,24 @@
-use Rattle.std.proofs.Common.{vec_items, reverse, ap, rules, tests}
-use Rattle.std.specs.Option.{option_map}
-use Rattle.std.proofs.lemmas.Iterator.Adapters.{YieldsList-from_rev_slice}
-use Rattle.std.proofs.lemmas.Iterator.Consumers.{YieldsList-at, YieldsList-from_enumerate}
-use Rattle.std.proofs.lemmas.Iterator.Search.{find_from_yields_List}
+use Rattle.std.proofs.Common.{true, false, ◌<◌, length, vec_items, reverse, sym, subst, rules, tests}
+use Rattle.std.specs.Prelude.{None, Some}
 use Rattle.typing.specs.Holding.{held, known}
-use Rattle.typing.proofs.Finding.{names_agree, named, not_found, found_at}
+use Rattle.typing.proofs.Lists.{under_at}
+use Rattle.typing.proofs.Finding.{names_agree, first_from_back, from_back, Named, Other, find_none, found_at}
 use Rattle.typing.proofs.checker.Checker.find.Goals as goal
 
-pub returns-in_err-index : goal.returns-in_err-index
+pub returns-in_err-at : goal.returns-in_err-at
 unfolding held
-returns-in_err-index c =
+returns-in_err-at c =
     let ts = known c.args.self.now in
     let sc = vec_items c.args.self.now.scope in
-    let e = find_from_yields_List (named ts c.args.name) _ _ c.find.result c.find.ensures.ran (YieldsList-from_enumerate (YieldsList-at c.enumerate-inner_first.ensures.source (YieldsList-from_rev_slice sc (cc))) c.enumerate-inner_first.ensures.count) (λ x b q k. (search (rules, tests), names_agree b x.1.now.name c.args.name (λ h. search (rules, tests), λ h. search (rules, tests)))) in
-    rw c.from_residual.ensures (not_found ts c.args.name (reverse sc) _ e (ap (option_map (λ x. (x.0, x.1.now))) c.in_err-index.was))
+    let first = first_from_back _ _ 0 None (Named ts c.args.name) (Other ts c.args.name) c.in_err-at.ensures.ran (from_back sc (cc)) (λ x q k. names_agree true x.now.name c.args.name (λ h. search (rules, tests), λ h. search (rules, tests))) (λ x q k. (search (rules, tests), names_agree false x.now.name c.args.name (λ h. search (rules, tests), λ h. search (rules, tests)))) in
+    rw c.from_residual.ensures (find_none ts c.args.name (reverse sc) first)
 
 pub returns : goal.returns
 unfolding held
 returns c =
     let ts = known c.args.self.now in
     let sc = vec_items c.args.self.now.scope in
-    let e = find_from_yields_List (named ts c.args.name) _ _ c.find.result c.find.ensures.ran (YieldsList-from_enumerate (YieldsList-at c.enumerate-inner_first.ensures.source (YieldsList-from_rev_slice sc (cc))) c.enumerate-inner_first.ensures.count) (λ x b q k. (search (rules, tests), names_agree b x.1.now.name c.args.name (λ h. search (rules, tests), λ h. search (rules, tests)))) in
-    found_at ts c.args.name (reverse sc) _ e _ _ (ap (option_map (λ x. (x.0, x.1.now))) c.in_ok-index.was)
+    let first = first_from_back _ _ _ (Some c.in_ok-at.at) (Named ts c.args.name) (Other ts c.args.name) c.in_ok-at.ensures.ran (from_back sc (cc)) (λ x q k. names_agree true x.now.name c.args.name (λ h. search (rules, tests), λ h. search (rules, tests))) (λ x q k. (search (rules, tests), names_agree false x.now.name c.args.name (λ h. search (rules, tests), λ h. search (rules, tests)))) in
+    let d = c.index.result.now in
+    let within : d.code < length ts = subst (λ b. b.code < length ts) (sym c.index.ensures) (under_at (λ b. b.code) _ sc c.in_ok-at.at d c.args.self.now.codes.0 (search rules)) in
+    (within, found_at ts c.args.name sc _ c.in_ok-at.at _ _ (search rules) first.0 (search rules) c.index.ensures first.1)
