@@ -41,8 +41,8 @@ fn split_at_place(text: &[u8], place: usize) -> (&[u8], &[u8]) {
 
 // The end of the line that a text ends with, which is shown before the place.
 fn end_of_line(text: &[u8]) -> &[u8] {
-    let line = text.rsplit(|b| *b == b'\n').next().unwrap_or(text);
-    &line[line.len().saturating_sub(BEFORE)..]
+    let near = &text[text.len().saturating_sub(BEFORE)..];
+    near.rsplit(|b| *b == b'\n').next().unwrap_or(near)
 }
 
 // A byte that cannot be printed is shown as a question mark.

@@ -32,11 +32,11 @@ pub fn try_text(rt: &HostRuntime, table: &mut Table, text: &[u8]) -> anyhow::Res
 }
 
 pub fn try_nested(rt: &HostRuntime, table: &mut Table, count: usize) -> anyhow::Result<()> {
-    let heap = rt.alloc();
-    let opening = "(".repeat(heap, count)?;
-    let closing = ")".repeat(heap, count)?;
-    let text = format!(in heap; "main(s:int):int={opening}s{closing}")?;
-    match table.read(text.as_bytes()) {
+    let mut text = Vec::from_slice(rt.alloc(), b"main(s:int):int=")?;
+    text.resize(text.len().saturating_add(count), b'(')?;
+    text.push(b's')?;
+    text.resize(text.len().saturating_add(count), b')')?;
+    match table.read(text.as_slice()) {
         Ok(()) => println!(rt; "reads {}", table.occurrences().len())?,
         Err(fault) => show_refusal(rt, fault)?,
     }
